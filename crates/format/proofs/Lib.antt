@@ -1,0 +1,5 @@
+pub mod Refusals
+pub mod Tests
+pub mod Numbers
+pub mod Compact
+pub mod Keys

@@ -1,0 +1,17 @@
+pub mod Refusals
+pub mod Tests
+pub mod Numbers
+pub mod Compact
+pub mod Keys
+pub mod Rules
+pub mod Content
+pub mod Reading
+pub mod Entries
+pub mod Parse
+pub mod Tables
+pub mod Lookups
+pub mod Fields
+pub mod Locks
+pub mod Scripts
+pub mod Transaction
+pub mod Examples
