@@ -29,10 +29,10 @@ long-more : (w : ℕ) (s r : List ℕ) → Keeps (long w s) (long w (s ++ r))
 unfolding long
 long-more w s r =
     pick-by (λ (o : Size). Keeps o (long w (s ++ r))) (leb w (length s)) _ _
-    (λ q n u e.
+    (λ q.
     let h : w ≤ length s = leb-true w (length s) q in
     let k : w ≤ length (s ++ r) = rw length-append (omega arith) in
-    rw (le-leb w (length (s ++ r)) k, take-append-le w s r h) e)
+    λ n u e. rw (le-leb w (length (s ++ r)) k, take-append-le w s r h) e)
     (λ q n u (e : Bad UnexpectedEof ≡ Read n u). let z : _≡_ {A = ℕ} 0 1 = cc in absurd (omega (arith, z)))
 
 pub size-more : (s r : List ℕ) → Keeps (size s) (size (s ++ r))

@@ -3,3 +3,4 @@ pub mod Tests
 pub mod Numbers
 pub mod Compact
 pub mod Keys
+pub mod Wrong
