@@ -4,3 +4,4 @@ pub mod Numbers
 pub mod Compact
 pub mod Keys
 pub mod Wrong
+pub mod Told

@@ -14,4 +14,5 @@ pub mod Fields
 pub mod Locks
 pub mod Scripts
 pub mod Transaction
+pub mod Told
 pub mod Examples
