@@ -1,2 +1,4 @@
 pub mod Items
 pub mod Files
+pub mod Orderly
+pub mod Rooms

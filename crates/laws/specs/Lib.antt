@@ -1,1 +1,3 @@
 pub mod Fine
+pub mod Given
+pub mod Rooms
