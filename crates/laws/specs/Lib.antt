@@ -1,3 +1,4 @@
 pub mod Fine
 pub mod Given
 pub mod Rooms
+pub mod Shown
