@@ -1,0 +1,4 @@
+pub mod Fine
+pub mod Given
+pub mod Rooms
+pub mod Shown
