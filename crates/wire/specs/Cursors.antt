@@ -17,7 +17,7 @@ use Rattle.wire.specs.declared.Prefixed.{Prefixed}
 use Rattle.wire.specs.declared.Prefixed.the-variants as P
 
 -- the cursor at a place
-unfoldable pub cursor : ℕ → Cursor
+abbrev pub cursor : ℕ → Cursor
 cursor p = record { pos = p }
 
 -- how many bytes are left at a place: past the end none
@@ -37,16 +37,11 @@ sizeAtBy p (Z.Read n u) = S.Read n (cursor (p + u))
 unfoldable pub sizeAt : List ℕ → ℕ → SizeRead
 sizeAt s p = sizeAtBy p (size (drop p s))
 
--- n bytes behind their length, by what was taken
-unfoldable pub prefixedOf : ℕ → Taken → Prefixed
-prefixedOf n (T.Bad e) = P.Bad e
-prefixedOf n (T.Part a c) = P.Part a n c
-
--- bytes behind their length, by the length
-unfoldable pub prefixedBy : List ℕ → SizeRead → Prefixed
-prefixedBy s (S.Bad e) = P.Bad e
-prefixedBy s (S.Read n c) = prefixedOf n (takeAt s (c .pos) n)
+-- bytes behind their length, by the length read at a place
+unfoldable pub prefixedBy : List ℕ → ℕ → Size → Prefixed
+prefixedBy s p (Z.Bad e) = P.Bad e
+prefixedBy s p (Z.Read n u) = pick (leb n (remaining s (p + u))) (P.Part (p + u) n (cursor (p + u + n))) (P.Bad UnexpectedEof)
 
 -- the bytes at a place that stand behind their length, a compact size
 unfoldable pub prefixedAt : List ℕ → ℕ → Prefixed
-prefixedAt s p = prefixedBy s (sizeAt s p)
+prefixedAt s p = prefixedBy s p (size (drop p s))
