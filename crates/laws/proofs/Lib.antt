@@ -4,3 +4,4 @@ pub mod Orderly
 pub mod Rooms
 pub mod Parsed
 pub mod Shown
+pub mod Given
