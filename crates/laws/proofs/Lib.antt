@@ -5,3 +5,6 @@ pub mod Rooms
 pub mod Parsed
 pub mod Shown
 pub mod Given
+pub mod Turns
+pub mod Notes
+pub mod Listings
