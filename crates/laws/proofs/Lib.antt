@@ -8,3 +8,4 @@ pub mod Given
 pub mod Turns
 pub mod Notes
 pub mod Listings
+pub mod Found

@@ -1,8 +1,8 @@
 -- A listing by place and count is the pairs of its type, since keys rise.
 use mathlib.Core.Path.{_≡_, refl, sym, _∙_, ap}
-use mathlib.Core.List.{List, [], _∷_}
+use mathlib.Core.List.{List, [], _∷_, map}
 use mathlib.Core.Bool.{Bool, true, false}
-use Prim.Native.Nat.{ℕ, zero, suc, _≤_, _<_}
+use Prim.Native.Nat.{ℕ, _≤_, _<_}
 use native.Mathlib.Omega.{arith}
 use borrow.Author.Tests.{ltb-true, ltb-false, eqb-false, le-ltb, ne-eqb}
 use lib.Dec.{ltb, eqb}
@@ -10,12 +10,18 @@ use lib.ListN.{length, take, drop}
 use Rattle.format.specs.Tests.{keepIf, only}
 use Rattle.format.specs.Keys.{typeOf, keyOf, order, isBelow, below}
 use Rattle.format.specs.Content.{Pair}
-use Rattle.format.specs.Lookups.{listing, before}
+use Rattle.format.specs.Entries.{shown}
+use Rattle.format.specs.Tables.{holds, held}
+use Rattle.format.specs.Lookups.{listing, before, list}
+use Rattle.format.specs.declared.Psbt.{Psbt}
+use Rattle.format.specs.declared.PairEntry.{PairEntry}
+use Rattle.format.specs.declared.Listing.the-variants.{Pairs}
 use Rattle.format.specs.declared.Order.{Order}
-use Rattle.format.specs.declared.Order.the-variants.{Below, Same, Above}
+use Rattle.format.specs.declared.Order.the-variants.{Below}
 use Rattle.format.proofs.Tests.{pick-by}
 use Rattle.format.proofs.Keys.{rises-by}
 use Rattle.laws.specs.Fine.{Rises}
+use Rattle.laws.proofs.Shown.{held-shows}
 
 type-le : (a b : List ℕ) → order a b ≡ Below → typeOf a ≤ typeOf b
 unfolding typeOf order
@@ -80,3 +86,12 @@ listing-is t last (p ∷ ps) r = rw (below-type t last (p .key) (r .0)) (by (lis
         let l : t ≤ typeOf (p .key) = ltb-false _ _ e in
         let z : length (only (λ (p : Pair). below (p .key) (keyOf t [])) ps) ≡ 0 = none-before t (p .key) ps l (r .1) in
         rw z (at-front t p ps l (r .1) (front-listing t (p .key) ps l (r .1)) (eqb (typeOf (p .key)) t) refl)
+
+-- so in any tables a listing answers the place and the count of the pairs of its type
+pub list-is : (f P M : List ℕ) (s : Psbt) (m t i n : ℕ) (es : List PairEntry) → held f P M s m ≡ holds es → list f t (holds es) ≡ Pairs i n
+    → take n (drop i (map (shown f) es)) ≡ listing t (map (shown f) es)
+unfolding list
+list-is f P M s m t i n es h q =
+    let a : before t (map (shown f) es) ≡ i = cc in
+    let b : length (listing t (map (shown f) es)) ≡ n = cc in
+    rw (← a, ← b) (listing-is t [] (map (shown f) es) (held-shows f P M s m es h .1))

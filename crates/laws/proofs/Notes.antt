@@ -1,11 +1,11 @@
 -- A walk that notes a field at its pair finds what the content has, since keys rise.
-use mathlib.Core.Path.{_≡_, refl, sym, _∙_, ap}
+use mathlib.Core.Path.{_≡_, ap}
 use mathlib.Core.List.{List, [], _∷_, _++_}
 use mathlib.Core.Bool.{false}
 use Prim.Native.Nat.{ℕ}
 use Rattle.format.specs.Tests.{pick}
 use Rattle.format.specs.Keys.{order, same}
-use Rattle.format.specs.Content.{Pair, Found, absent, found, find}
+use Rattle.format.specs.Content.{Pair, found, find}
 use Rattle.format.specs.declared.Order.the-variants.{Below}
 use Rattle.format.proofs.Keys.{order-trans, same-self, below-not}
 use Rattle.laws.specs.Fine.{Rises}

@@ -3,3 +3,4 @@ pub mod Given
 pub mod Rooms
 pub mod Shown
 pub mod Turns
+pub mod Found
