@@ -4,3 +4,8 @@ pub mod Orderly
 pub mod Rooms
 pub mod Parsed
 pub mod Shown
+pub mod Given
+pub mod Turns
+pub mod Notes
+pub mod Listings
+pub mod Found

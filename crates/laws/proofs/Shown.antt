@@ -21,6 +21,7 @@ use Rattle.format.specs.declared.PairEntry.{PairEntry}
 use Rattle.format.specs.declared.MapEntry.{MapEntry}
 use Rattle.format.proofs.Tests.{pick-by, and-left, and-right}
 use Rattle.format.proofs.Numbers.{All}
+use Rattle.format.proofs.Keys.{below-is}
 use Rattle.laws.specs.Fine.{Framed, Rises, FineMap, FineFile}
 use Rattle.laws.specs.Shown.{bare, viewBy, behind, behindMap, entries, mapsEntries, entriesBy, runs, joined, onto, pairTable, mapTable}
 use Rattle.laws.proofs.Files.{reading-is, one-plus-counts}
@@ -188,7 +189,7 @@ view-here f m [] at r h = refl
 view-here f zero (x ∷ ms) at r h = ap shows (shown-here f at (x .pairs) _ h)
 view-here f (suc m) (x ∷ ms) at r h = view-here f m ms (behindMap at x) r (rest-map f at x (mapsBytes ms r) h)
 
--- whatever the tables, the entries that a map holds are fit, so they lie in the file
+-- whatever the tables, the entries that a map holds are fit: they lie in the file, and the keys that they show rise
 abbrev HeldFit : List ℕ → Held → Type 0
 HeldFit f (no e) = Unit {0}
 HeldFit f (holds es) = fit f [] es ≡ true
@@ -199,18 +200,19 @@ by-fit f es [] = tt
 by-fit f es (r ∷ rs) =
     pick-by (HeldFit f) (leb (r .first + r .count) (length es)) _ _ (λ q. pick-by (HeldFit f) (fit f [] (take (r .count) (drop (r .first) es))) _ _ (λ w. w) (λ w. tt)) (λ q. tt)
 
-pub held-fit : (f P M : List ℕ) (s : Psbt) (m : ℕ) (es : List PairEntry) → held f P M s m ≡ holds es → fit f [] es ≡ true
-unfolding held
-held-fit f P M s m es h =
-    let w : HeldFit f (held f P M s m) = pick-by (HeldFit f) (ltb m (mapsReported s)) _ _ (λ q. by-fit f (pairEntries P) (drop m (mapEntries M))) (λ q. tt) in
-    subst (HeldFit f) h w
-
-fit-in : (f last : List ℕ) (es : List PairEntry) → fit f last es ≡ true → every (inFile f) es ≡ true
-unfolding fit every
-fit-in f last [] h = refl
-fit-in f last (e ∷ es) h =
+fit-shows : (f last : List ℕ) (es : List PairEntry) → fit f last es ≡ true → (every (inFile f) es ≡ true) × Rises last (map (shown f) es)
+unfolding fit every shown
+fit-shows f last [] h = (refl, tt)
+fit-shows f last (e ∷ es) h =
     let a : (inFile f e && below last (keyIn f e)) ≡ true = and-left (inFile f e && below last (keyIn f e)) (fit f (keyIn f e) es) h in
-    rw (and-left (inFile f e) (below last (keyIn f e)) a) (fit-in f (keyIn f e) es (and-right (inFile f e && below last (keyIn f e)) (fit f (keyIn f e) es) h))
+    let i = fit-shows f (keyIn f e) es (and-right (inFile f e && below last (keyIn f e)) (fit f (keyIn f e) es) h) in
+    (rw (and-left (inFile f e) (below last (keyIn f e)) a) (i .0), (below-is last (keyIn f e) (and-right (inFile f e) (below last (keyIn f e)) a), i .1))
+
+pub held-shows : (f P M : List ℕ) (s : Psbt) (m : ℕ) (es : List PairEntry) → held f P M s m ≡ holds es → (every (inFile f) es ≡ true) × Rises [] (map (shown f) es)
+unfolding held
+held-shows f P M s m es h =
+    let w : HeldFit f (held f P M s m) = pick-by (HeldFit f) (ltb m (mapsReported s)) _ _ (λ q. by-fit f (pairEntries P) (drop m (mapEntries M))) (λ q. tt) in
+    fit-shows f [] es (subst (HeldFit f) h w)
 
 -- every map of the tables holds its entries
 module _ (f : List ℕ) (c : Content) (P M : List ℕ) (e : reading f ≡ accepted c) where
@@ -242,4 +244,4 @@ module _ (f : List ℕ) (c : Content) (P M : List ℕ) (e : reading f ≡ accept
   pub entries-show : (m : ℕ) (es : List PairEntry) → held f (pairTable c P) (mapTable c M) (psbtOf (c .global .pairs)) m ≡ holds es
       → (every (inFile f) es ≡ true) × (viewBy m (mapsOf c) ≡ shows (map (shown f) es))
   unfolding view viewOf
-  entries-show m es h = (fit-in f [] es (held-fit f (pairTable c P) (mapTable c M) (psbtOf (c .global .pairs)) m es h), sym (view-is m) ∙ ap (viewOf f) h)
+  entries-show m es h = (held-shows f (pairTable c P) (mapTable c M) (psbtOf (c .global .pairs)) m es h .0, sym (view-is m) ∙ ap (viewOf f) h)
