@@ -1,0 +1,1 @@
+-- The lock of a transaction honours what its inputs ask.
