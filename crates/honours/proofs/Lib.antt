@@ -1,3 +1,4 @@
 pub mod Walks
 pub mod Decisions
+pub mod Ends
 pub mod Honours
