@@ -1,8 +1,8 @@
 -- What the answer on the lock says of the inputs is true.
-use mathlib.Core.Path.{_≡_, refl, sym, _∙_, ap, subst}
+use mathlib.Core.Path.{_≡_, refl, ap, subst}
 use mathlib.Core.Bool.{Bool, true, false, _||_}
 use mathlib.Core.List.{List, [], _∷_, _++_}
-use Prim.Native.Nat.{ℕ, zero, suc, _+_, _≤_, _<_}
+use Prim.Native.Nat.{ℕ, suc, _+_, _≤_}
 use native.Mathlib.Omega.{arith}
 use borrow.Author.Tests.{ltb-true, ltb-false, leb-true, leb-false}
 use lib.Dec.{ltb, leb}
@@ -19,7 +19,7 @@ module _ {A : Type 0} (P : A → Type 0) where
   all-join [] ys h k = k
   all-join (x ∷ xs) ys h k = (h .0, all-join xs ys (h .1) k)
 
-  all-split : (xs ys : List A) → All P (xs ++ ys) → All P xs × All P ys
+  pub all-split : (xs ys : List A) → All P (xs ++ ys) → All P xs × All P ys
   all-split [] ys h = (tt, h)
   all-split (x ∷ xs) ys h = let r = all-split xs ys (h .1) in ((h .0, r .0), r .1)
 
@@ -100,11 +100,11 @@ module _ (fallback : Maybe) (ins : List In) where
   says-by [] [] h t w = (w, h .all (λ n. ⊥) tt, t .all (λ n. ⊥) tt, refl)
   says-by (a ∷ hs) [] h t w =
       let g = is-greatest h t in
-      pick-by (Says fallback ins) (ltb (greatest a hs .number) threshold) _ _ (λ q. (w, g, ltb-true _ _ q)) (λ q. (g, ltb-false _ _ q))
+      pick-by (Says fallback ins) (ltb (greatest a hs .number) threshold) _ _ (λ q. (w, g, ltb-true _ _ q)) (λ q. (w, g, ltb-false _ _ q))
   says-by [] (a ∷ ts) h t w =
       let g = is-greatest t h in
-      pick-by (Says fallback ins) (leb threshold (greatest a ts .number)) _ _ (λ q. (w, g, leb-true _ _ q)) (λ q. (g, leb-false _ _ q))
-  says-by (a ∷ hs) (b ∷ ts) h t w = ((a .number, h .only .0), (b .number, t .only .0))
+      pick-by (Says fallback ins) (leb threshold (greatest a ts .number)) _ _ (λ q. (w, g, leb-true _ _ q)) (λ q. (w, g, leb-false _ _ q))
+  says-by (a ∷ hs) (b ∷ ts) h t w = (w, (a .number, h .only .0), (b .number, t .only .0))
 
   says-formed : (ms : List ℕ) (l : Lock) → All (λ i. (x : In) × At ins i x × IsMalformed x) ms → (ms ≡ [] → Says fallback ins l) → Says fallback ins (wellFormed ms l)
   unfolding wellFormed
@@ -119,3 +119,16 @@ module _ (fallback : Maybe) (ins : List In) where
       (along-only _ misfitBy 0 ins (λ j x a. kept-only _ (isMisfit (x .height) || isMisfit (x .time)) (0 + j) (λ m. let z : 0 + j ≡ j = omega arith in rw z (x, a, m))))
       (λ n. says-by (heights 0 ins) (times 0 ins) (lists (λ x. x .height) ins) (lists (λ x. x .time) ins)
       (along-all (λ i. ⊥) misfitBy _ (λ j x. kept-all (isMisfit (x .height) || isMisfit (x .time)) j) 0 ins (rw n tt))))
+
+-- the fallback is not heard unless no input asks
+module _ (fallback other : Maybe) (ins : List In) (some : NoneAsked AsksHeight ins → NoneAsked AsksTime ins → ⊥) where
+  unheard-by : (hs ts : List Asked) → Lists AsksHeight ins hs → Lists AsksTime ins ts → decideBy fallback hs ts ≡ decideBy other hs ts
+  unfolding decideBy
+  unheard-by [] [] h t = absurd (some (h .all (λ n. ⊥) tt) (t .all (λ n. ⊥) tt))
+  unheard-by (a ∷ hs) [] h t = refl
+  unheard-by [] (a ∷ ts) h t = refl
+  unheard-by (a ∷ hs) (b ∷ ts) h t = refl
+
+  pub unheard : decide fallback ins ≡ decide other ins
+  unfolding decide heights times
+  unheard = ap (wellFormed (misfits 0 ins)) (unheard-by (heights 0 ins) (times 0 ins) (lists (λ x. x .height) ins) (lists (λ x. x .time) ins))

@@ -1,12 +1,11 @@
 -- A transaction's bytes end in its lock time.
 use mathlib.Core.Path.{_≡_, refl, sym, _∙_, ap}
 use mathlib.Core.List.{List, [], _∷_, _++_, append-assoc}
-use Prim.Native.Nat.{ℕ, _+_, _-_, _^_, _<_}
+use Prim.Native.Nat.{ℕ, _-_, _^_, _<_}
 use native.Mathlib.Omega.{arith}
-use lib.ListN.{length, take, drop, length-append}
+use lib.ListN.{length, drop, length-append}
 use lib.Seq.{drop-at}
-use Rattle.format.specs.Numbers.{le, bytesOf, unsigned}
-use Rattle.format.specs.Compact.{shortest}
+use Rattle.format.specs.Numbers.{bytesOf}
 use Rattle.format.specs.Content.{Found, absent, found}
 use Rattle.format.specs.Locks.{Sized, missing, misfit, is, In}
 use Rattle.format.specs.Scripts.{Out, scriptEntry}

@@ -3,24 +3,23 @@ use mathlib.Core.Path.{_≡_, refl, sym, _∙_, ap, subst}
 use mathlib.Core.List.{List, [], _∷_}
 use Prim.Native.Nat.{ℕ, zero, suc, _^_, _≤_, _<_}
 use native.Mathlib.Omega.{arith}
-use Rattle.format.specs.Locks.{Sized, missing, misfit, is, In, Asked, threshold, heights, times, misfits, orZero, decideBy, wellFormed, decide, lockOf}
+use Rattle.format.specs.Locks.{Sized, missing, misfit, is, In, threshold, orZero, decide, Locked, unlocked, locked, lockOf}
 use Rattle.format.specs.Scripts.{Out}
 use Rattle.format.specs.Transaction.{Tx, refuses, writes, txWith, txBy, transaction}
 use Rattle.format.specs.declared.PsbtError.the-variants.{BadValue}
-use Rattle.format.specs.declared.Maybe.{Maybe}
 use Rattle.format.specs.declared.Psbt.{Psbt}
 use Rattle.format.specs.declared.Lock.{Lock}
 use Rattle.format.specs.declared.Lock.the-variants.{Refused, Height, Time, Fallback, BothKinds, HeightTooGreat, TimeTooSmall, Malformed}
 use Rattle.format.proofs.Numbers.{All}
 use Rattle.honours.specs.Honours.{Spells, AsksHeight, AsksTime, IsMalformed, Meets, Honours, asksNothing, byHeight, byTime, lockIn, At, AskedAt, EachAsked, NoneAsked, TimesFit, WellFormed, Greatest, Says}
-use Rattle.honours.proofs.Decisions.{decided}
+use Rattle.honours.proofs.Decisions.{decided, unheard}
 use Rattle.honours.proofs.Ends.{never-writes, lock-ends}
 
-pub all-at : {A : Type 0} (P Q R : A → Type 0) → ((x : A) → P x → Q x → R x) → (xs : List A) → All P xs → All Q xs → All R xs
-all-at P Q R f [] h k = tt
-all-at P Q R f (x ∷ xs) h k = (f x (h .0) (k .0), all-at P Q R f xs (h .1) (k .1))
+all-both : {A : Type 0} (P Q R : A → Type 0) → ((x : A) → P x → Q x → R x) → (xs : List A) → All P xs → All Q xs → All R xs
+all-both P Q R f [] h k = tt
+all-both P Q R f (x ∷ xs) h k = (f x (h .0) (k .0), all-both P Q R f xs (h .1) (k .1))
 
--- an input that was asked of is one of all
+-- what holds of all inputs holds of one
 at-all : (P : In → Type 0) (ins : List In) (i : ℕ) (x : In) → At ins i x → All P ins → P x
 at-all P [] i x a h = absurd a
 at-all P (y ∷ ys) zero x a h = subst P a (h .0)
@@ -69,14 +68,14 @@ module _ (s : Psbt) (ins : List In) (outs : List Out) (T : List ℕ) where
   meets b fit =
       transaction-by (λ t. t ≡ writes b → All (Meets (lockIn b)) ins) never-writes
       (λ n i w g l q. rw (lock-ends s ins outs T n b (omega arith) q)
-      (all-at _ _ _ (λ x h k. record { height = λ m a. (l, h m a); time = λ m a. absurd (k m a) }) ins (g .most) (g .alone)))
+      (all-both _ _ _ (λ x h k. record { height = λ m a. (l, h m a); time = λ m a. absurd (k m a) }) ins (g .most) (g .alone)))
       (λ n i w g l q. rw (lock-ends s ins outs T n b (asked AsksTime (λ m. m < 2 ^ 32) n i ins (g .there) fit) q)
-      (all-at _ _ _ (λ x h k. record { height = λ m a. absurd (k m a); time = λ m a. (l, h m a) }) ins (g .most) (g .alone)))
-      (λ w h k q. all-at _ _ _ (λ x h k. record { height = λ m a. absurd (h m a); time = λ m a. absurd (k m a) }) ins h k)
+      (all-both _ _ _ (λ x h k. record { height = λ m a. absurd (k m a); time = λ m a. (l, h m a) }) ins (g .most) (g .alone)))
+      (λ w h k q. all-both _ _ _ (λ x h k. record { height = λ m a. absurd (h m a); time = λ m a. absurd (k m a) }) ins h k)
 
   -- so it honours every input
   pub honours : (b : List ℕ) → TimesFit ins → transaction s ins outs T ≡ writes b → All (Honours (lockIn b)) ins
-  honours b fit q = let m = meets b fit q in all-at _ _ _ (λ x h k. meets-honours (lockIn b) x h) ins m m
+  honours b fit q = let m = meets b fit q in all-both _ _ _ (λ x h k. meets-honours (lockIn b) x h) ins m m
 
   -- where no input asks, it is the fallback
   pub lock-of-none : (b : List ℕ) → NoneAsked AsksHeight ins → NoneAsked AsksTime ins → orZero (s .«fallback_locktime») < 2 ^ 32 → transaction s ins outs T ≡ writes b
@@ -118,3 +117,15 @@ module _ (s : Psbt) (ins : List In) (outs : List Out) (T : List ℕ) where
       (λ _ _ w g l. absurd (at-all (λ x. IsMalformed x → ⊥) ins i x a w m))
       (λ _ _ w g l. absurd (at-all (λ x. IsMalformed x → ⊥) ins i x a w m))
       (λ w h k. absurd (at-all (λ x. IsMalformed x → ⊥) ins i x a w m))
+
+-- where some input asks, the fallback makes no difference
+module _ (s s′ : Psbt) (ins : List In) (outs : List Out) (T : List ℕ) (version : s .«tx_version» ≡ s′ .«tx_version»)
+    (some : NoneAsked AsksHeight ins → NoneAsked AsksTime ins → ⊥) where
+  same-by : (l : Locked) → txBy s ins outs T l ≡ txBy s′ ins outs T l
+  unfolding txBy txWith
+  same-by (unlocked e) = refl
+  same-by (locked n) = rw version
+
+  pub fallback-unheard : transaction s ins outs T ≡ transaction s′ ins outs T
+  unfolding transaction
+  fallback-unheard = same-by _ ∙ ap (λ (l : Lock). txBy s′ ins outs T (lockOf l)) (unheard (s .«fallback_locktime») (s′ .«fallback_locktime») ins some)

@@ -2,3 +2,4 @@ pub mod Walks
 pub mod Decisions
 pub mod Ends
 pub mod Honours
+pub mod Calls

@@ -1,7 +1,7 @@
--- A walk along inputs: in two parts, and what it finds is what the inputs ask.
-use mathlib.Core.Path.{_≡_, refl, sym, _∙_, ap, subst}
+-- A walk along inputs goes in two parts, and so does the greatest of the numbers asked for.
+use mathlib.Core.Path.{_≡_, refl}
 use mathlib.Core.List.{List, [], _∷_, _++_, append-assoc}
-use Prim.Native.Nat.{ℕ, zero, suc, _+_}
+use Prim.Native.Nat.{ℕ, suc, _+_}
 use native.Mathlib.Omega.{arith}
 use lib.ListN.{length}
 use lib.Dec.{ltb}
@@ -11,7 +11,7 @@ use Rattle.format.specs.Locks.{In, Asked, along, askedBy, heights, times, misfi
 pub along-append : {A : Type 0} (f : In → ℕ → List A) (i : ℕ) (xs ys : List In) → along f i (xs ++ ys) ≡ along f i xs ++ along f (i + length xs) ys
 unfolding along
 along-append f i [] ys = let z : i + 0 ≡ i = omega arith in rw z
-along-append {A} f i (x ∷ xs) ys =
+along-append f i (x ∷ xs) ys =
     let e : i + 1 + length xs ≡ i + suc (length xs) = omega arith in
     rw (along-append f (i + 1) xs ys, e, append-assoc)
 

@@ -5,11 +5,13 @@ use mathlib.Core.Bool.{true, _||_}
 use mathlib.Core.List.{List, [], _∷_}
 use lib.ListN.{length, drop}
 use Rattle.format.specs.Numbers.{le}
+use Rattle.format.specs.Content.{Pair}
+use Rattle.format.specs.Tables.{View, shows}
 use Rattle.format.specs.Locks.{Sized, missing, misfit, is, In, threshold, isMisfit, orZero}
 use Rattle.format.specs.declared.Maybe.{Maybe}
 use Rattle.format.specs.declared.Lock.{Lock}
 use Rattle.format.specs.declared.Lock.the-variants.{Refused, Height, Time, Fallback, BothKinds, HeightTooGreat, TimeTooSmall, Malformed}
-use Rattle.format.proofs.Numbers.{All}
+use Rattle.format.proofs.Numbers.{All, Byte}
 
 -- a field that is there with its right length spells n
 abbrev pub Spells : Sized → ℕ → Type 0
@@ -64,6 +66,13 @@ NoneAsked asks ins = EachAsked asks (λ n. ⊥) ins
 abbrev pub TimesFit : List In → Type 0
 TimesFit ins = EachAsked AsksTime (λ t. t < 2 ^ 32) ins
 
+-- pairs whose values are bytes; maps that show such pairs
+abbrev pub ByteValues : List Pair → Type 0
+ByteValues ps = All (λ p. All Byte (p .value)) ps
+
+abbrev pub ShowsBytes : (ℕ → View) → Type 0
+ShowsBytes v = (m : ℕ) (ps : List Pair) → v m ≡ shows ps → ByteValues ps
+
 -- no lock field has a wrong length
 abbrev pub WellFormed : List In → Type 0
 WellFormed ins = All (λ x. IsMalformed x → ⊥) ins
@@ -80,7 +89,7 @@ Says fallback ins (Refused e) = ⊥
 Says fallback ins (Height n i) = WellFormed ins × Greatest AsksHeight AsksTime n i ins × (n < threshold)
 Says fallback ins (Time n i) = WellFormed ins × Greatest AsksTime AsksHeight n i ins × (threshold ≤ n)
 Says fallback ins (Fallback n) = WellFormed ins × NoneAsked AsksHeight ins × NoneAsked AsksTime ins × (n ≡ orZero fallback)
-Says fallback ins (BothKinds i j) = ((h : ℕ) × AskedAt AsksHeight h i ins) × ((t : ℕ) × AskedAt AsksTime t j ins)
-Says fallback ins (HeightTooGreat n i) = Greatest AsksHeight AsksTime n i ins × (threshold ≤ n)
-Says fallback ins (TimeTooSmall n i) = Greatest AsksTime AsksHeight n i ins × (n < threshold)
+Says fallback ins (BothKinds i j) = WellFormed ins × ((h : ℕ) × AskedAt AsksHeight h i ins) × ((t : ℕ) × AskedAt AsksTime t j ins)
+Says fallback ins (HeightTooGreat n i) = WellFormed ins × Greatest AsksHeight AsksTime n i ins × (threshold ≤ n)
+Says fallback ins (TimeTooSmall n i) = WellFormed ins × Greatest AsksTime AsksHeight n i ins × (n < threshold)
 Says fallback ins (Malformed i) = (x : In) × At ins i x × IsMalformed x
