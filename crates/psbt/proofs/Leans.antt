@@ -22,7 +22,8 @@ use Rattle.format.specs.declared.Psbt.{Psbt}
 use Rattle.format.specs.declared.Parsed.the-variants as A
 use Rattle.format.proofs.Tests.{pick-by}
 use Rattle.format.proofs.Compact.{size-own}
-use Rattle.laws.specs.Fine.{Rises}
+use Rattle.format.proofs.Numbers.{All}
+use Rattle.laws.specs.Fine.{Rises, Keeps}
 use Rattle.laws.proofs.Items.{ItemIs, item-is}
 use Rattle.laws.proofs.Files.{pair-some}
 use Rattle.psbt.specs.Walks.{note, withGlobals, withSeen, atFirst, unseen, globalsRule, psbtFrom, seenRule, countOf, closeGlobal, closeOutput, close, finishBy, finish, anInput, anOutput, start, afterBy, after}
@@ -135,7 +136,7 @@ kind-note key v w =
     (λ q. pick-by (λ (x : Walk). x .kind ≡ w .kind) (eqb (w .kind) OUTPUT) _ _ (λ t. refl) (λ t. refl))
 
 abbrev Behind : (Map → List ℕ → Reading) → Walk → List ℕ → List ℕ → Type 0
-Behind j w last s = (ps : List Pair) (a r : List ℕ) → Rises last ps → lean (j (record { pairs = ps; end = a }) r) ≡ goOn walk r (after (noteAll w ps) (left r))
+Behind j w last s = (ps : List Pair) (a r : List ℕ) → Rises last ps → All (Keeps (w .kind)) ps → lean (j (record { pairs = ps; end = a }) r) ≡ goOn walk r (after (noteAll w ps) (left r))
 
 front-events : (j : Map → List ℕ → Reading) (p : Pair) (o : Mapped)
     → mapEvents j (front p o) ≡ R.pair p (mapEvents (λ m r. j (record { pairs = p ∷ m .pairs; end = m .end }) r) o)
@@ -152,14 +153,14 @@ in-map (suc n) w last s j l h =
     by : ((v : Walk) (t r : List ℕ) (i : Map → List ℕ → Reading) → length r < n → Behind i v t r → lean (mapEvents i (items n (v .kind) t r)) ≡ walk v t r)
         → (o : Item) → ItemIs (w .kind) last s o → lean (mapEvents j (turn (items n (w .kind)) o)) ≡ walkTurn walk w o
     by more (stop e) x = unfold turn mapEvents pairEvents lean walkTurn in refl
-    by more (over a r) x = unfold turn mapEvents pairEvents lean walkTurn noteAll in ap (ended a) (h [] a r tt)
+    by more (over a r) x = unfold turn mapEvents pairEvents lean walkTurn noteAll in ap (ended a) (h [] a r tt tt)
     by more (one p r) x =
         let m = one-less (w .kind) last s p r x in
         unfold turn walkTurn lean noteAll in
         (ap lean (front-events j p (items n (w .kind) (p .key) r))
         ∙ ap (pair p) (ap (λ (k : ℕ). lean (mapEvents (λ m r. j (record { pairs = p ∷ m .pairs; end = m .end }) r) (items n k (p .key) r))) (sym (kind-note (p .key) (p .value) w))
         ∙ more (note (p .key) (p .value) w) (p .key) r (λ m r. j (record { pairs = p ∷ m .pairs; end = m .end }) r) (omega arith)
-        (λ ps a q R. h (p ∷ ps) a q (x .rises, R))))
+        (λ ps a q R K. h (p ∷ ps) a q (x .rises, R) (x .keeps, subst (λ (k : ℕ). All (Keeps k) ps) (kind-note (p .key) (p .value) w) K))))
 
 -- the end of a file: nothing left over, and then what the output rules say
 unfoldable endsBy : Psbt → Ruled → List ℕ → Lean
@@ -218,7 +219,7 @@ module _ (g : List Pair) where
       ∙ sym (ap (goOn walk s) (start-none w (left s) i o) ∙ finish-ends w (psbtOf g) s (ap psbtFrom e ∙ psbt-from g))
   outputs-are (suc n) w s j i o e h =
       ap begins (in-map (suc (length s)) (anOutput w) [] s (λ m r. mapsEvents OUTPUT n r (λ ms q. j (m ∷ ms) q)) (omega arith)
-      (λ ps a r R. next ps a r R (λ v t k. outputs-are n v t k)))
+      (λ ps a r R K. next ps a r R (λ v t k. outputs-are n v t k)))
       ∙ sym (ap (goOn walk s) (start-output w (left s) n i o))
     where
       next : (ps : List Pair) (a r : List ℕ) → Rises [] ps
@@ -249,7 +250,7 @@ unfolding mapsEvents lean goOn mapped anInput
 inputs-are zero w s j i h = h [] s w i (record { outputs = refl; globals = refl; ruled = refl })
 inputs-are (suc n) w s j i h =
     ap begins (in-map (suc (length s)) (anInput w) [] s (λ m r. mapsEvents INPUT n r (λ ms q. j (m ∷ ms) q)) (omega arith)
-    (λ ps a r R. inputs-are n (anInput w) r (λ ms q. j (record { pairs = ps; end = a } ∷ ms) q) (omega arith)
+    (λ ps a r R K. inputs-are n (anInput w) r (λ ms q. j (record { pairs = ps; end = a } ∷ ms) q) (omega arith)
     (λ is x v z e. h (record { pairs = ps; end = a } ∷ is) x v z (record { outputs = e .outputs; globals = e .globals; ruled = e .ruled }))
     ∙ sym (ap (goOn walk r) (ap (λ (z : Walk). after z (left r)) (input-noted (anInput w) ps refl) ∙ after-input (anInput w) (left r) refl))))
     ∙ sym (ap (goOn walk s) (start-input w (left s) n i))
@@ -272,13 +273,14 @@ after-global : (w : Walk) (b : Bool) → w .kind ≡ GLOBAL → after w b ≡ af
 unfolding after close
 after-global w b k = rw k
 
-global-are : (ps : List Pair) (a r : List ℕ) → Rises [] ps → lean (globalThen (record { pairs = ps; end = a }) r) ≡ goOn walk r (after (noteAll atFirst ps) (left r))
+global-are : (ps : List Pair) (a r : List ℕ) → Rises [] ps → All (Keeps GLOBAL) ps → lean (globalThen (record { pairs = ps; end = a }) r) ≡ goOn walk r (after (noteAll atFirst ps) (left r))
 unfolding globalThen andThen withGlobals
-global-are ps a r R =
-    by (globalRule ps) refl ∙ sym (ap (goOn walk r) (ap (λ (z : Walk). after z (left r)) (global-noted atFirst ps refl refl R) ∙ after-global w (left r) refl))
+global-are ps a r R K =
+    by (globalRule ps) refl ∙ sym (ap (goOn walk r) (ap (λ (z : Walk). after z (left r)) (global-noted atFirst ps refl refl R K) ∙ after-global w (left r) refl))
   where
     w : Walk
     w = withGlobals atFirst (foundGlobals ps)
+
     by : (y : Ruled) → globalRule ps ≡ y → lean (unless y (mapsEvents INPUT (counted (field 0x04 ps)) r (λ is q. mapsEvents OUTPUT (counted (field 0x05 ps)) q (λ os x. lastly (record { pairs = ps; end = a }) is os x)))) ≡ goOn walk r (afterBy (left r) (closeGlobal w (globalsRule (foundGlobals ps))))
     by (Refused e) q = unfold unless lean goOn in rw (global-rule ps, q) (unfold closeGlobal afterBy in refl)
     by Passed q = unfold unless in rw (global-rule ps, q) (unfold closeGlobal afterBy withGlobals in

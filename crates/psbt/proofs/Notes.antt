@@ -1,23 +1,34 @@
 -- Noting a field at its pair, along pairs whose keys rise, is finding it among them.
-use Prim.Native.Nat.{ℕ, _%_}
-use mathlib.Core.Path.{_≡_, refl, sym, _∙_, ap}
+use Prim.Native.Nat.{ℕ, _≤_, _%_}
+use mathlib.Core.Path.{_≡_, refl, sym, _∙_, ap, subst}
 use mathlib.Core.Bool.{Bool, true, false, not}
 use mathlib.Core.List.{List, [], _∷_}
 use native.Mathlib.Omega.{arith}
-use borrow.Author.Tests.{ne-eqb}
+use borrow.Author.Tests.{ne-eqb, eqb-true}
 use lib.Dec.{eqb}
+use lib.ListN.{length}
+use lib.Seq.{take-all}
 use Rattle.format.specs.Tests.{pick}
-use Rattle.format.specs.Numbers.{signed}
-use Rattle.format.specs.Keys.{keyOf, order, same, isSame}
-use Rattle.format.specs.Rules.{GLOBAL, INPUT, OUTPUT}
-use Rattle.format.specs.Content.{Pair, Found, absent, found, find, field, present, number, maybe, counted, psbtOf, globalRule, modifiable, outputRule}
+use Rattle.format.specs.Numbers.{le, signed}
+use Rattle.format.specs.Compact.{size, countBy, count}
+use Rattle.format.specs.Keys.{typeOf, dataOf, keyOf, order, same, isSame}
+use Rattle.format.specs.Rules.{GLOBAL, INPUT, OUTPUT, valueFits, isRow, rowRule, sizesIn, sizes, countRule, bareRule, andThen, rule}
+use Rattle.format.specs.Content.{Pair, Found, absent, found, find, field, present, number, maybe, sizeValue, counted, psbtOf, globalRule, modifiable, outputRule}
 use Rattle.format.specs.Locks.{orZero}
+use Rattle.format.specs.declared.PsbtError.the-variants.{BadValue}
+use Rattle.format.specs.declared.Size.{Size}
+use Rattle.format.specs.declared.Size.the-variants.{Bad, Read}
 use Rattle.format.specs.declared.Order.the-variants.{Below}
+use Rattle.format.specs.declared.Ruled.{Ruled}
+use Rattle.format.specs.declared.Ruled.the-variants.{Passed, Refused}
 use Rattle.format.specs.declared.Maybe.{Maybe}
 use Rattle.format.specs.declared.Maybe.the-variants.{Absent, Present}
 use Rattle.format.proofs.Tests.{pick-by}
 use Rattle.format.proofs.Keys.{order-trans, same-is}
-use Rattle.laws.specs.Fine.{Rises}
+use Rattle.format.proofs.Numbers.{All}
+use Rattle.laws.specs.Fine.{Rises, Keeps}
+use Rattle.wire.specs.Leads.{lead}
+use Rattle.wire.proofs.Bounds.{count-read}
 use Rattle.psbt.specs.Walks.{notedBy, asNumber, asCount, asThere, noted, notedCount, notedThere, noteGlobal, noteOutput, withGlobals, withSeen, note, noGlobals, unseen, there, countThere, countOf, globalsRule, psbtFrom, flags, seenRule}
 use Rattle.psbt.specs.declared.Count.{Count}
 use Rattle.psbt.specs.declared.Count.the-variants as C
@@ -55,26 +66,62 @@ along-is {A} read t last (p ∷ ps) old h = by (same (keyOf t []) (p .key)) refl
     by true q i = i (read (p .value)) ∙ ap (λ (f : Found). orOld read f (read (p .value))) (ap (λ (k : List ℕ). find k ps) (same-is (keyOf t []) (p .key) q) ∙ absent-behind (p .key) ps (h .1))
     by false q i = i old
 
+-- a value that is found keeps the field rule
+found-keeps : (k : ℕ) (key : List ℕ) (ps : List Pair) (v : List ℕ) → All (Keeps k) ps → find key ps ≡ found v → rule k key v ≡ Passed
+unfolding find
+found-keeps k key [] v a e = let z : _≡_ {A = ℕ} 0 1 = cc in absurd (omega arith)
+found-keeps k key (p ∷ ps) v a e = by (same key (p .key)) refl (found-keeps k key ps v (a .1)) e
+  where
+    by : (b : Bool) → same key (p .key) ≡ b → (find key ps ≡ found v → rule k key v ≡ Passed) → pick b (found (p .value)) (find key ps) ≡ found v → rule k key v ≡ Passed
+    by true q i e =
+        let w : p .value ≡ v = cc in
+        subst (λ (x : List ℕ). rule k key x ≡ Passed) w (subst (λ (x : List ℕ). rule k x (p .value) ≡ Passed) (sym (same-is key (p .key) q)) (a .0))
+    by false q i e = i e
+
+-- a rule that passes has passed in both its parts
+both-passed : (x y : Ruled) → andThen x y ≡ Passed → (x ≡ Passed) × (y ≡ Passed)
+unfolding andThen
+both-passed Passed y h = (refl, h)
+both-passed (Refused e) y h = let z : _≡_ {A = ℕ} 0 1 = cc in absurd (omega arith)
+
+size-passed : (n m : ℕ) → pick (eqb n m) Passed (Refused BadValue) ≡ Passed → n ≡ m
+size-passed n m =
+    pick-by (λ (y : Ruled). y ≡ Passed → n ≡ m) (eqb n m) _ _ (λ q h. eqb-true n m q) (λ q (h : Refused BadValue ≡ Passed). let z : _≡_ {A = ℕ} 0 1 = cc in absurd (omega arith))
+
+-- a global field whose row asks m bytes has m
+global-sized : (t m : ℕ) (v : List ℕ) → ((n : ℕ) → sizes GLOBAL t 0 n ≡ pick (eqb n m) Passed (Refused BadValue)) → rule GLOBAL (keyOf t []) v ≡ Passed → length v ≡ m
+unfolding rule keyOf typeOf dataOf
+global-sized t m v is h = size-passed (length v) m (sym (is (length v)) ∙ both-passed _ _ h .0)
+
+-- a count field that passes is a compact size, whole
+counted-is : (v : List ℕ) (y : Size) → count v ≡ y → countRule y ≡ Passed → sizeValue (count v) ≡ sizeValue (size v)
+unfolding countRule count
+counted-is v (Read n u) q h = rw q (unfold sizeValue in ap sizeValue (sym (count-read (length v) (countBy (length v) (size v)) (size v) n u refl q)))
+counted-is v (Bad e) q h = let z : _≡_ {A = ℕ} 0 1 = cc in absurd (omega arith)
+
 -- what noting gives from nothing on, by what is found
 unfoldable pub countFound : Found → Count
 countFound absent = C.Absent
-countFound (found v) = asCount v
+countFound (found v) = C.Present (sizeValue (size v))
 
-number-along : (t : ℕ) (ps : List Pair) → Rises [] ps → alongBy asNumber t ps Absent ≡ maybe (field t ps)
-unfolding orOld maybe asNumber
-number-along t ps h = along-is asNumber t [] ps Absent h ∙ by (field t ps)
-  where
-    by : (f : Found) → orOld asNumber f Absent ≡ maybe f
-    by absent = refl
-    by (found v) = refl
+module _ (ps : List Pair) (h : Rises [] ps) (a : All (Keeps GLOBAL) ps) where
+  number-along : (t m : ℕ) → m ≤ 4 → ((n : ℕ) → sizes GLOBAL t 0 n ≡ pick (eqb n m) Passed (Refused BadValue)) → alongBy asNumber t ps Absent ≡ maybe (field t ps)
+  unfolding orOld maybe asNumber lead field
+  number-along t m l is = along-is asNumber t [] ps Absent h ∙ by (field t ps) refl
+    where
+      by : (f : Found) → field t ps ≡ f → orOld asNumber f Absent ≡ maybe f
+      by absent q = refl
+      by (found v) q =
+          let e : length v ≡ m = global-sized t m v is (found-keeps GLOBAL (keyOf t []) ps v a q) in
+          ap (λ (x : List ℕ). Present (le x)) (take-all 4 v (omega arith))
 
-count-along : (t : ℕ) (ps : List Pair) → Rises [] ps → alongBy asCount t ps C.Absent ≡ countFound (field t ps)
-unfolding orOld countFound
-count-along t ps h = along-is asCount t [] ps C.Absent h ∙ by (field t ps)
-  where
-    by : (f : Found) → orOld asCount f C.Absent ≡ countFound f
-    by absent = refl
-    by (found v) = refl
+  count-along : (t : ℕ) → ((v : List ℕ) → rule GLOBAL (keyOf t []) v ≡ countRule (count v)) → alongBy asCount t ps C.Absent ≡ countFound (field t ps)
+  unfolding orOld countFound asCount field
+  count-along t is = along-is asCount t [] ps C.Absent h ∙ by (field t ps) refl
+    where
+      by : (f : Found) → field t ps ≡ f → orOld asCount f C.Absent ≡ countFound f
+      by absent q = refl
+      by (found v) q = ap C.Present (counted-is v (count v) refl (sym (is v) ∙ found-keeps GLOBAL (keyOf t []) ps v a q))
 
 there-along : (t : ℕ) (ps : List Pair) → Rises [] ps → alongBy asThere t ps false ≡ present (field t ps)
 unfolding orOld present asThere
@@ -137,17 +184,17 @@ foundGlobals ps = record {
   «psbt_version» = maybe (field 0xfb ps);
 }
 
-pub global-noted : (w : Walk) (ps : List Pair) → w .kind ≡ GLOBAL → w .globals ≡ noGlobals → Rises [] ps → noteAll w ps ≡ withGlobals w (foundGlobals ps)
-unfolding globalsAlong foundGlobals
-global-noted w ps k g h =
+pub global-noted : (w : Walk) (ps : List Pair) → w .kind ≡ GLOBAL → w .globals ≡ noGlobals → Rises [] ps → All (Keeps GLOBAL) ps → noteAll w ps ≡ withGlobals w (foundGlobals ps)
+unfolding globalsAlong foundGlobals sizes sizesIn isRow rowRule valueFits rule bareRule keyOf typeOf dataOf andThen
+global-noted w ps k g h a =
     global-all w ps k ∙ rw (
       g,
-      number-along 0x02 ps h,
-      number-along 0x03 ps h,
-      count-along 0x04 ps h,
-      count-along 0x05 ps h,
-      number-along 0x06 ps h,
-      number-along 0xfb ps h,
+      number-along ps h a 0x02 4 (omega arith) (λ n. refl),
+      number-along ps h a 0x03 4 (omega arith) (λ n. refl),
+      count-along ps h a 0x04 (λ v. refl),
+      count-along ps h a 0x05 (λ v. refl),
+      number-along ps h a 0x06 1 (omega arith) (λ n. refl),
+      number-along ps h a 0xfb 4 (omega arith) (λ n. refl),
     )
 
 -- what an output has, as it is found
@@ -180,12 +227,12 @@ there-maybe absent = refl
 there-maybe (found v) = refl
 
 there-count : (f : Found) → countThere (countFound f) ≡ present f
-unfolding countThere countFound present asCount
+unfolding countThere countFound present
 there-count absent = refl
 there-count (found v) = refl
 
 count-of : (f : Found) → countOf (countFound f) ≡ counted f
-unfolding countOf countFound counted asCount
+unfolding countOf countFound counted
 count-of absent = refl
 count-of (found v) = refl
 

@@ -4,8 +4,8 @@ use mathlib.Core.Bool.{Bool, true, false, not, _&&_, _||_}
 use mathlib.Core.List.{List, []}
 use lib.Dec.{ltb, eqb}
 use Rattle.format.specs.Tests.{pick}
-use Rattle.format.specs.Numbers.{le, signed}
-use Rattle.format.specs.Compact.{size}
+use Rattle.format.specs.Numbers.{signed}
+use Rattle.format.specs.Compact.{count}
 use Rattle.format.specs.Keys.{keyOf, same}
 use Rattle.format.specs.Rules.{andThen, GLOBAL, INPUT, OUTPUT}
 use Rattle.format.specs.Content.{sizeValue, outputBy}
@@ -16,6 +16,7 @@ use Rattle.format.specs.declared.Ruled.the-variants.{Passed, Refused}
 use Rattle.format.specs.declared.Maybe.{Maybe}
 use Rattle.format.specs.declared.Maybe.the-variants.{Absent, Present}
 use Rattle.format.specs.declared.Psbt.{Psbt}
+use Rattle.wire.specs.Leads.{lead}
 use Rattle.psbt.specs.declared.Count.{Count}
 use Rattle.psbt.specs.declared.Count.the-variants as C
 use Rattle.psbt.specs.declared.Globals.{Globals}
@@ -32,10 +33,10 @@ notedBy read t key v old = pick (same (keyOf t []) key) (read v) old
 
 -- how a value is read: as a number, as a count, as being there
 unfoldable pub asNumber : List ℕ → Maybe
-asNumber v = Present (le v)
+asNumber v = Present (lead 4 v)
 
 unfoldable pub asCount : List ℕ → Count
-asCount v = C.Present (sizeValue (size v))
+asCount v = C.Present (sizeValue (count v))
 
 unfoldable pub asThere : List ℕ → Bool
 asThere v = true
