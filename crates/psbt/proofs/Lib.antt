@@ -1,2 +1,4 @@
 pub mod Notes
 pub mod Leans
+pub mod Parts
+pub mod Signs

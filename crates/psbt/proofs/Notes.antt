@@ -155,11 +155,11 @@ seenAlong ps o = record {
   label = alongBy asThere 0x0a ps (o .label);
 }
 
-note-global : (w : Walk) (key v : List ℕ) → w .kind ≡ GLOBAL → note key v w ≡ withGlobals w (noteGlobal key v (w .globals))
+pub note-global : (w : Walk) (key v : List ℕ) → w .kind ≡ GLOBAL → note key v w ≡ withGlobals w (noteGlobal key v (w .globals))
 unfolding note
 note-global w key v k = rw k
 
-note-output : (w : Walk) (key v : List ℕ) → w .kind ≡ OUTPUT → note key v w ≡ withSeen w (noteOutput key v (w .seen))
+pub note-output : (w : Walk) (key v : List ℕ) → w .kind ≡ OUTPUT → note key v w ≡ withSeen w (noteOutput key v (w .seen))
 unfolding note
 note-output w key v k = rw k
 

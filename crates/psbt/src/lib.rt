@@ -1,8 +1,30 @@
 // Reading a file into two lent tables: `parse`.
+ghost use mathlib.Core.Path.{_≡_};
+ghost use mathlib.Core.List.{[]};
+ghost use Rattle.format.specs.Keys.{keyOf, same};
+ghost use Rattle.format.specs.Numbers.{signed};
+ghost use Rattle.format.specs.Content.{sizeValue, outputBy};
+ghost use Rattle.format.specs.Locks.{orZero};
+ghost use Rattle.psbt.specs.Walks.{noted, notedCount, notedThere, noteGlobal, noteOutput, note, globalsRule, psbtFrom, flags, seenRule, closeGlobal, closeOutput, close, finish, finishBy, anInput, anOutput, start, afterBy, after, there, countThere, countOf, atFirst};
+use format::GLOBAL;
+use format::INPUT;
 use format::Maybe;
+use format::OUTPUT;
+use format::PSBT_GLOBAL_FALLBACK_LOCKTIME;
+use format::PSBT_GLOBAL_INPUT_COUNT;
+use format::PSBT_GLOBAL_OUTPUT_COUNT;
+use format::PSBT_GLOBAL_TX_MODIFIABLE;
+use format::PSBT_GLOBAL_TX_VERSION;
+use format::PSBT_GLOBAL_VERSION;
+use format::PSBT_OUT_SCRIPT;
+use format::PSBT_OUT_SP_V0_INFO;
+use format::PSBT_OUT_SP_V0_LABEL;
 use format::Psbt;
 use format::PsbtError;
 use format::Ruled;
+use format::Size;
+use wire::u32_from_le_bytes;
+use wire::u64_from_compact_size;
 
 // A count that may be absent.
 pub enum Count {
@@ -49,4 +71,245 @@ pub enum Next {
     Stop(PsbtError),
     Done(Psbt),
     Map(Walk),
+}
+
+// A key is a type without data.
+fn is_bare(key: &[u8], key_type: u8) -> bool
+    ensures { λ r. ⌜ r ≡ same (keyOf «key_type» []) (now (key .entry)) ⌝ }
+{
+    if key.len() == 1 {
+        key[0] == key_type
+    } else {
+        false
+    }
+}
+
+// The value of a compact size, 0 where it could not be read.
+fn size_value(x: Size) -> u64
+    ensures { λ r. ⌜ r ≡ sizeValue x ⌝ }
+{
+    match x {
+        Size::Bad(e) => 0,
+        Size::Read { value, used } => value,
+    }
+}
+
+// A field of at most four bytes after a pair.
+fn noted(key_type: u8, key: &[u8], value: &[u8], old: Maybe) -> Maybe
+    ensures { λ r. ⌜ r ≡ noted «key_type» (now (key .entry)) (now (value .entry)) old ⌝ }
+{
+    if is_bare(key, key_type) {
+        Maybe::Present(u32_from_le_bytes(value))
+    } else {
+        old
+    }
+}
+
+// A count field after a pair.
+fn noted_count(key_type: u8, key: &[u8], value: &[u8], old: Count) -> Count
+    ensures { λ r. ⌜ r ≡ notedCount «key_type» (now (key .entry)) (now (value .entry)) old ⌝ }
+{
+    if is_bare(key, key_type) {
+        Count::Present(size_value(u64_from_compact_size(value)))
+    } else {
+        old
+    }
+}
+
+// Whether a field is there, after a pair.
+fn noted_there(key_type: u8, key: &[u8], old: bool) -> bool
+    ensures { λ r. ⌜ r ≡ notedThere «key_type» (now (key .entry)) [] old ⌝ }
+{
+    if is_bare(key, key_type) { true } else { old }
+}
+
+// The global fields after a pair of the global map.
+fn note_global(g: Globals, key: &[u8], value: &[u8]) -> Globals
+    ensures { λ r. ⌜ r ≡ noteGlobal (now (key .entry)) (now (value .entry)) g ⌝ }
+{
+    let old = g.tx_version;
+    let tx_version = noted(PSBT_GLOBAL_TX_VERSION, key, value, old);
+    let old = g.fallback_locktime;
+    let fallback_locktime = noted(PSBT_GLOBAL_FALLBACK_LOCKTIME, key, value, old);
+    let old = g.n_inputs;
+    let n_inputs = noted_count(PSBT_GLOBAL_INPUT_COUNT, key, value, old);
+    let old = g.n_outputs;
+    let n_outputs = noted_count(PSBT_GLOBAL_OUTPUT_COUNT, key, value, old);
+    let old = g.tx_modifiable;
+    let tx_modifiable = noted(PSBT_GLOBAL_TX_MODIFIABLE, key, value, old);
+    let old = g.psbt_version;
+    let psbt_version = noted(PSBT_GLOBAL_VERSION, key, value, old);
+    Globals {
+        tx_version,
+        fallback_locktime,
+        n_inputs,
+        n_outputs,
+        tx_modifiable,
+        psbt_version,
+    }
+}
+
+// What an output has, after a pair of it.
+fn note_output(seen: Seen, key: &[u8]) -> Seen
+    ensures { λ r. ⌜ r ≡ noteOutput (now (key .entry)) [] seen ⌝ }
+{
+    Seen {
+        script: noted_there(PSBT_OUT_SCRIPT, key, seen.script),
+        code: noted_there(PSBT_OUT_SP_V0_INFO, key, seen.code),
+        label: noted_there(PSBT_OUT_SP_V0_LABEL, key, seen.label),
+    }
+}
+
+// What is carried on after a pair.
+fn note_pair(w: Walk, key: &[u8], value: &[u8]) -> Walk
+    ensures { λ r. ⌜ r ≡ note (now (key .entry)) (now (value .entry)) w ⌝ }
+{
+    if key.len() != 1 {
+        return w;
+    }
+    let globals = w.globals;
+    let seen = w.seen;
+    let ruled = w.ruled;
+    if w.kind == GLOBAL {
+        return Walk {
+            kind: w.kind,
+            globals: note_global(globals, key, value),
+            inputs: w.inputs,
+            outputs: w.outputs,
+            seen,
+            ruled,
+        };
+    }
+    if w.kind == OUTPUT {
+        return Walk {
+            kind: w.kind,
+            globals,
+            inputs: w.inputs,
+            outputs: w.outputs,
+            seen: note_output(seen, key),
+            ruled,
+        };
+    }
+    w
+}
+
+fn is_there(m: Maybe) -> bool
+    ensures { λ r. ⌜ r ≡ there m ⌝ }
+{
+    match m {
+        Maybe::Absent => false,
+        Maybe::Present(n) => true,
+    }
+}
+
+fn is_counted(c: Count) -> bool
+    ensures { λ r. ⌜ r ≡ countThere c ⌝ }
+{
+    match c {
+        Count::Absent => false,
+        Count::Present(n) => true,
+    }
+}
+
+fn or_zero(m: Maybe) -> u32
+    ensures { λ r. ⌜ r ≡ orZero m ⌝ }
+{
+    match m {
+        Maybe::Absent => 0,
+        Maybe::Present(n) => n,
+    }
+}
+
+fn count_of(c: Count) -> u64
+    ensures { λ r. ⌜ r ≡ countOf c ⌝ }
+{
+    match c {
+        Count::Absent => 0,
+        Count::Present(n) => n,
+    }
+}
+
+// The rule of the global map: what has to be there, then the version.
+fn check_globals(g: Globals) -> Ruled
+    ensures { λ r. ⌜ r ≡ globalsRule g ⌝ }
+{
+    let tx_version = g.tx_version;
+    let n_inputs = g.n_inputs;
+    let n_outputs = g.n_outputs;
+    let psbt_version = g.psbt_version;
+    if !is_there(tx_version) {
+        return Ruled::Refused(PsbtError::MissingCounts);
+    }
+    if !is_counted(n_inputs) {
+        return Ruled::Refused(PsbtError::MissingCounts);
+    }
+    if !is_counted(n_outputs) {
+        return Ruled::Refused(PsbtError::MissingCounts);
+    }
+    if !is_there(psbt_version) {
+        return Ruled::Refused(PsbtError::MissingCounts);
+    }
+    if or_zero(psbt_version) != 2 {
+        return Ruled::Refused(PsbtError::NotAllowed);
+    }
+    Ruled::Passed
+}
+
+// 32 bits read as a signed number.
+fn signed(x: u32) -> i32
+    ensures { λ r. ⌜ r ≡ signed x ⌝ }
+{
+    if x < 0x8000_0000 {
+        x as i32
+    } else {
+        (x - 0x8000_0000) as i32 + (-2147483647 - 1)
+    }
+}
+
+// What is reported of the global map.
+fn psbt_of(g: Globals) -> Psbt
+    ensures { λ r. ⌜ r ≡ psbtFrom g ⌝ }
+{
+    let tx_version = g.tx_version;
+    let fallback_locktime = g.fallback_locktime;
+    let tx_modifiable = g.tx_modifiable;
+    let n_inputs = g.n_inputs;
+    let n_outputs = g.n_outputs;
+    Psbt {
+        tx_version: signed(or_zero(tx_version)),
+        fallback_locktime,
+        tx_modifiable,
+        inputs: count_of(n_inputs),
+        outputs: count_of(n_outputs),
+    }
+}
+
+// Any of the two low flags of the modifiable byte is set.
+fn is_modifiable(tx_modifiable: Maybe) -> bool
+    ensures { λ r. ⌜ r ≡ flags «tx_modifiable» ⌝ }
+{
+    or_zero(tx_modifiable) & 0b11 != 0
+}
+
+// The rules of silent payments for one output.
+fn validate_silent_payment_output(tx_modifiable: Maybe, seen: Seen) -> Ruled
+    ensures { λ r. ⌜ r ≡ outputBy (flags «tx_modifiable») (seen .script) (seen .code) (seen .label) ⌝ }
+{
+    let modifiable = is_modifiable(tx_modifiable);
+    if !seen.script {
+        if !seen.code {
+            return Ruled::Refused(PsbtError::MissingOutputScript);
+        }
+        return Ruled::Passed;
+    }
+    if !seen.code {
+        if seen.label {
+            return Ruled::Refused(PsbtError::InvalidSilentPayment);
+        }
+        return Ruled::Passed;
+    }
+    if modifiable {
+        return Ruled::Refused(PsbtError::InvalidSilentPayment);
+    }
+    Ruled::Passed
 }
