@@ -1,13 +1,11 @@
 -- What an answer says of the bytes, case by case, and the bounds that callers need of it.
 use mathlib.Core.Path.{_≡_, refl, sym, _∙_, ap}
-use mathlib.Core.Bool.{true, false}
 use mathlib.Core.List.{List, [], _∷_}
 use Prim.Native.Nat.{ℕ, _+_, _-_, _^_, _≤_, _<_}
 use native.Mathlib.Omega.{arith}
 use borrow.Author.Tests.{leb-true, leb-false}
 use lib.Dec.{leb, ltb, eqb}
 use lib.ListN.{length, take, drop, length-drop}
-use Rattle.format.specs.Numbers.{le}
 use Rattle.format.specs.Compact.{long, sizeBy, size, countBy}
 use Rattle.format.specs.declared.PsbtError.{PsbtError}
 use Rattle.format.specs.declared.PsbtError.the-variants.{UnexpectedEof, InvalidCompactSize}
