@@ -20,11 +20,12 @@ fn le(s: &[u8]) -> u64
     requires { ⌜ length (now s) ≤ 8 ⌝ }
     ensures { λ r. ⌜ r ≡ le (now (s .entry)) ⌝ }
 {
+    let n = s.len();
     let mut v: u64 = 0;
-    let mut i: usize = s.len();
-    while 0 < i {
-        i = i - 1;
-        v = v * 256 + wide(s[i]);
+    let mut i: usize = 0;
+    while i < n {
+        i = i + 1;
+        v = v * 256 + wide(s[n - i]);
     }
     v
 }

@@ -1,5 +1,5 @@
--- `wire::le` meets its contract: from the back, the number so far is that of the bytes from `i` on.
-use Prim.Native.Nat.{_≤_}
+-- `wire::le` meets its contract: read from the back, `v` is the number that the last `i` bytes spell.
+use Prim.Native.Nat.{_≤_, _-_}
 use mathlib.Core.Path.{_≡_}
 use borrow.Author.Needs.{needs}
 use lib.ListN.{length, drop}
@@ -12,10 +12,10 @@ use Rattle.wire.proofs.le.Lts as lts
 use Rattle.wire.proofs.wide.Reads as wide-reads
 
 abbrev Inv-loop : tie.InvT-loop
-Inv-loop s v₀ i₀ v i = (i ≤ length s) × (v ≡ le (drop i s))
+Inv-loop s n v₀ i₀ v i = (n ≡ length s) × (i ≤ n) × (v ≡ le (drop (n - i) s))
 
 abbrev μ-loop : tie.MeasureT-loop
-μ-loop s v₀ i₀ v i = i
+μ-loop s n v₀ i₀ v i = n - i
 
 -- needs: needs, les
 pub le-spec : {M : Type 1} → statement M
@@ -24,6 +24,7 @@ le-spec =
     (tie.spec
     Inv-loop
     μ-loop
+    (λ c. search (needs, les))
     (λ c. search (needs, les))
     (λ c. search (needs, les))
     (λ c. search (needs, les))
