@@ -6,7 +6,7 @@ use native.Mathlib.Nat.{lt-of-lt-of-le, pow-le-pow-right, sub-zero}
 use native.Mathlib.Omega.{arith}
 use lib.ListN.{length, take, drop, getD, length-take, length-drop}
 use lib.Seq.{drop-cons, drop-length, take-all}
-use mir.Syntax.{Width, w64}
+use mir.Syntax.{Width, w8, w64}
 use mir.Val.{Fits, bits}
 use Rattle.format.specs.Numbers.{le}
 use Rattle.format.proofs.Numbers.{All, Byte, le-below}
@@ -42,8 +42,8 @@ module _ (s : List ℕ) (n i v : ℕ) (len : n ≡ length s) (is : v ≡ le (dro
       pub le-mul : Fits w64 (v * 256)
       le-mul = record { fits = omega (arith, le-room) }
 
-      pub le-add : (b : ℕ) → b ≡ getD s (n - (i + 1)) 0 → Fits w64 (v * 256 + b)
-      le-add b e = record { fits = omega (arith, le-room, bytes (n - (i + 1))) }
+      pub le-add : (b x : ℕ) → b ≡ x → Fits w8 x → Fits w64 (v * 256 + b)
+      le-add b x e f = record { fits = omega (arith, le-room) }
 
 pub le-none : (s : List ℕ) (n : ℕ) → n ≡ length s → 0 ≡ le (drop (n - 0) s)
 unfolding le

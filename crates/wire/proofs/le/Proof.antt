@@ -4,6 +4,7 @@ use mathlib.Core.Path.{_≡_}
 use borrow.Author.Needs.{needs}
 use lib.ListN.{length, drop}
 use Rattle.format.specs.Numbers.{le}
+use Rattle.wire.proofs.Bytes.{bytes}
 use Rattle.wire.proofs.Leads.{les}
 use Rattle.wire.proofs.le.Statement.{statement}
 use Rattle.wire.proofs.le.Tie as tie
@@ -17,20 +18,20 @@ Inv-loop s n v₀ i₀ v i = (n ≡ length s) × (i ≤ n) × (v ≡ le (drop (n
 abbrev μ-loop : tie.MeasureT-loop
 μ-loop s n v₀ i₀ v i = n - i
 
--- needs: needs, les
+-- needs: needs, bytes, les
 pub le-spec : {M : Type 1} → statement M
 le-spec =
     tie.close
     (tie.spec
     Inv-loop
     μ-loop
-    (λ c. search (needs, les))
-    (λ c. search (needs, les))
-    (λ c. search (needs, les))
-    (λ c. search (needs, les))
-    (λ c. search (needs, les))
-    (λ c κs. search (needs, les))
-    (λ c. search (needs, les))
-    (λ c. search (needs, les))
-    (λ c. search (needs, les))
-    (λ c. search (needs, les)))
+    (λ c. search (needs, bytes, les))
+    (λ c. search (needs, bytes, les))
+    (λ c. search (needs, bytes, les))
+    (λ c. search (needs, bytes, les))
+    (λ c. search (needs, bytes, les))
+    (λ c κs. search (needs, bytes, les))
+    (λ c. search (needs, bytes, les))
+    (λ c. search (needs, bytes, les))
+    (λ c. search (needs, bytes, les))
+    (λ c. search (needs, bytes, les)))
