@@ -1,6 +1,6 @@
 -- Laws of little-endian numbers: read from the back, byte by byte, at every width; and of the number at the front.
-use mathlib.Core.Path.{_≡_, refl, sym, _∙_, ap}
-use mathlib.Core.List.{List, [], _∷_}
+use mathlib.Core.Path.{_≡_, sym, _∙_, ap}
+use mathlib.Core.List.{List}
 use Prim.Native.Nat.{ℕ, zero, suc, _+_, _*_, _-_, _^_, _≤_, _<_}
 use native.Mathlib.Nat.{lt-of-lt-of-le, pow-le-pow-right}
 use native.Mathlib.Omega.{arith}
@@ -60,9 +60,16 @@ pub lead-front : (w r : ℕ) (s : List ℕ) → r ≡ le (take w s) → r ≡ le
 unfolding lead
 lead-front w r s e = e
 
-pub lead-short : (w r : ℕ) (s : List ℕ) → length s < w → r ≡ le s → r ≡ lead w s
+-- no more bytes than the width are all of them
+lead-all : (w : ℕ) (s : List ℕ) → length s ≤ w → lead w s ≡ le s
 unfolding lead
-lead-short w r s h e = rw (take-all w s (omega arith)) e
+lead-all w s h = ap le (take-all w s h)
+
+pub lead-short : (w r : ℕ) (s : List ℕ) → length s < w → r ≡ le s → r ≡ lead w s
+lead-short w r s h e = e ∙ sym (lead-all w s (omega arith))
+
+pub lead-whole : (w r : ℕ) (s : List ℕ) → length s ≤ w → r ≡ lead w s → r ≡ le s
+lead-whole w r s h e = e ∙ lead-all w s h
 
 -- a number of w bytes is below 256 ^ w, so it fits as many bits
 pub lead-below : (s : List ℕ) (w : ℕ) → Bytes8 s → lead w s < 256 ^ w
