@@ -142,7 +142,7 @@ module _ (f s : List ℕ) (is : magic ++ s ≡ f) (short : length f ≤ limit) w
       (λ t. (b, record { global = G; ins = I; outs = O; rule = z; ins# = i#; outs# = o#; late = t; short = subst (λ (x : List ℕ). length x ≤ limit) (sym b) short }))
 
   global-holds : (g : Map) (r : List ℕ) → mapBytes g r ≡ s → FineMap GLOBAL g → Holds f (globalThen g r)
-  unfolding globalThen outcome
+  unfolding globalThen
   global-holds g r e G =
       unless-holds f _ (globalRule (g .pairs))
       (λ t. maps-hold f INPUT _ r _ (λ ms q i I i#. maps-hold f OUTPUT _ q _ (λ os x j O o#.
