@@ -98,22 +98,22 @@ module _ (k : ℕ) (last s : List ℕ) (o : Item) (is : o ≡ itemOf k last s) w
   pub one-in : (a l b v : ℕ) → o ≡ I.One a l b v → OneIn (length s) a l b v
   one-in a l b v e = subst (ItemIn (length s)) (sym is ∙ e) (item-in k last s)
 
+pub part-length : (s : List ℕ) (m n : ℕ) → m + n ≤ length s → length (take n (drop m s)) ≡ n
+part-length s m n h = length-take-le n (drop m s) (rw length-drop (omega arith))
+
 -- the lengths of a pair that lies in the bytes are its numbers
 module _ (s : List ℕ) (a l b v : ℕ) (i : OneIn (length s) a l b v) where
-  part-length : (m n : ℕ) → m + n ≤ length s → length (take n (drop m s)) ≡ n
-  part-length m n h = length-take-le n (drop m s) (rw length-drop (omega arith))
-
   klen-is : length (take a s) ≡ a
-  klen-is = part-length 0 a (omega (arith, i .ends, i .inside))
+  klen-is = part-length s 0 a (omega (arith, i .ends, i .inside))
 
   key-is : length (take l (drop a s)) ≡ l
-  key-is = part-length a l (omega (arith, i .ends, i .inside))
+  key-is = part-length s a l (omega (arith, i .ends, i .inside))
 
   vlen-is : length (take (b - (a + l)) (drop (a + l) s)) ≡ b - (a + l)
-  vlen-is = part-length (a + l) (b - (a + l)) (omega (arith, i .ends, i .inside))
+  vlen-is = part-length s (a + l) (b - (a + l)) (omega (arith, i .ends, i .inside))
 
   value-is : length (take v (drop b s)) ≡ v
-  value-is = part-length b v (i .inside)
+  value-is = part-length s b v (i .inside)
 
   pub width-is : width (pairAt s a l b v) ≡ b + v
   unfolding width pairAt
