@@ -37,7 +37,8 @@ fn show(counts: &BTreeMap<String, [u64; 2]>, heads: &str) {
 }
 
 fn lines(path: &str) -> io::Result<impl Iterator<Item = io::Result<String>>> {
-    Ok(BufReader::with_capacity(1 << 16, File::open(path).map_err(|e| io::Error::other(format!("{path}: {e}")))?).lines())
+    Ok(BufReader::with_capacity(1 << 16, File::open(path).map_err(|e| io::Error::other(format!("{path}: {e}")))?)
+        .lines())
 }
 
 fn shortened(line: &str) -> String {
@@ -69,7 +70,9 @@ fn run(arguments: &[String]) -> io::Result<bool> {
             return Ok(true);
         }
         [_, _] if !count => {}
-        _ => return Err(io::Error::other("compare OURS THEIRS [--whole] [--records RECORDS] | compare --count ANSWERS")),
+        _ => {
+            return Err(io::Error::other("compare OURS THEIRS [--whole] [--records RECORDS] | compare --count ANSWERS"))
+        }
     }
 
     let (mut ours, mut theirs) = (lines(paths[0])?, lines(paths[1])?);

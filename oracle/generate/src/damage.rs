@@ -177,6 +177,7 @@ pub fn damage(random: &mut Random, draft: &mut Draft) -> &'static str {
                         data = near(random, data);
                         value = near(random, value);
                     }
+                    2..=4 if key_type == 0x1f => value = random.between(0, 14),
                     2..=4 => value = near(random, value),
                     _ => {}
                 }
@@ -232,7 +233,8 @@ pub fn damage(random: &mut Random, draft: &mut Draft) -> &'static str {
         }
         69..=73 => {
             if random.once_in(2) {
-                let value = random.pick(&[[0, 0, 0, 0], [1, 0, 0, 0], [3, 0, 0, 0], [2, 0, 0, 1], [2, 1, 0, 0], [0, 0, 0, 2]]);
+                let value =
+                    random.pick(&[[0, 0, 0, 0], [1, 0, 0, 0], [3, 0, 0, 0], [2, 0, 0, 1], [2, 1, 0, 0], [0, 0, 0, 2]]);
                 draft.maps[0].set(Pair::new(0xfb, &[], value.to_vec()));
             } else {
                 let length = random.pick(&[0, 0, 10, 60]);
@@ -247,32 +249,30 @@ pub fn damage(random: &mut Random, draft: &mut Draft) -> &'static str {
             "extra bytes"
         }
         79..=91 => {
-            // Script, code, label and the flags, in every mixture.
-            if let Some(map) = of_kind(random, draft, Kind::Output) {
-                for (key_type, length) in [(0x04, 34), (0x09, 66), (0x0a, 4)] {
-                    match random.below(3) {
-                        0 => draft.maps[map].remove(&[key_type]),
-                        1 => {
-                            let value = random.bytes(length);
-                            draft.maps[map].set(Pair::new(key_type, &[], value));
-                        }
-                        _ => {}
-                    }
+            // Script, code, label and the flags, in every mixture. Without an output there are other damages.
+            let Some(map) = of_kind(random, draft, Kind::Output) else {
+                return damage(random, draft);
+            };
+            for (key_type, length) in [(0x04, 34), (0x09, 66), (0x0a, 4)] {
+                draft.maps[map].remove(&[key_type]);
+                if random.once_in(2) {
+                    let value = random.bytes(length);
+                    draft.maps[map].set(Pair::new(key_type, &[], value));
                 }
-                if random.once_in(12) {
-                    // A script with key data is none.
-                    draft.maps[map].remove(&[0x04]);
-                    let data = random.byte();
-                    draft.maps[map].set(Pair::new(0x04, &[data], vec![0x51]));
+            }
+            if random.once_in(12) {
+                // A script with key data is none.
+                draft.maps[map].remove(&[0x04]);
+                let data = random.byte();
+                draft.maps[map].set(Pair::new(0x04, &[data], vec![0x51]));
+            }
+            match random.below(4) {
+                0 => draft.maps[0].remove(&[0x06]),
+                1..=2 => {
+                    let flags = random.pick(&[0, 1, 2, 3, 4, 5, 6, 0x80, 0xfc, 0xff]);
+                    draft.maps[0].set(Pair::new(0x06, &[], vec![flags]));
                 }
-                match random.below(3) {
-                    0 => draft.maps[0].remove(&[0x06]),
-                    1 => {
-                        let flags = random.pick(&[0, 1, 2, 3, 4, 5, 6, 0x80, 0xfc, 0xff]);
-                        draft.maps[0].set(Pair::new(0x06, &[], vec![flags]));
-                    }
-                    _ => {}
-                }
+                _ => {}
             }
             "output rules"
         }
@@ -285,7 +285,9 @@ pub fn damage(random: &mut Random, draft: &mut Draft) -> &'static str {
                 2 => draft.magic.clear(),
                 _ => {
                     let at = random.below(5) as usize;
-                    draft.magic[at] ^= 1 << random.below(8);
+                    if let Some(byte) = draft.magic.get_mut(at) {
+                        *byte ^= 1 << random.below(8);
+                    }
                 }
             }
             "magic"
@@ -322,7 +324,8 @@ pub fn noise(random: &mut Random) -> Vec<u8> {
     let mut file = MAGIC[..if random.once_in(6) { random.between(0, 4) } else { 5 }].to_vec();
     let length = random.between(0, 40);
     for _ in 0..length {
-        let byte = random.pick(&[0x00, 0x00, 0x00, 0x01, 0x01, 0x01, 0x02, 0x03, 0x04, 0x05, 0xfb, 0xfc, 0xfd, 0xfe, 0xff]);
+        let byte =
+            random.pick(&[0x00, 0x00, 0x00, 0x01, 0x01, 0x01, 0x02, 0x03, 0x04, 0x05, 0xfb, 0xfc, 0xfd, 0xfe, 0xff]);
         file.push(if random.once_in(8) { random.byte() } else { byte });
     }
     file

@@ -188,13 +188,33 @@ fn corners() -> Vec<Vec<u8>> {
     }
     // Every sized type, with key data and value of 0 to 70 bytes.
     for (kind, key_type) in [
-        (0, "03"), (0, "06"), (0, "07"), (0, "08"), (1, "03"), (1, "0e"), (1, "0f"), (1, "10"), (1, "11"), (1, "12"),
-        (1, "1d"), (1, "1e"), (1, "1f"), (1, "20"), (2, "03"), (2, "09"), (2, "0a"),
+        (0, "03"),
+        (0, "06"),
+        (0, "07"),
+        (0, "08"),
+        (1, "03"),
+        (1, "0e"),
+        (1, "0f"),
+        (1, "10"),
+        (1, "11"),
+        (1, "12"),
+        (1, "1d"),
+        (1, "1e"),
+        (1, "1f"),
+        (1, "20"),
+        (2, "03"),
+        (2, "09"),
+        (2, "0a"),
     ] {
         for data in [0, 1, 32, 33, 34] {
             for value in [0, 1, 2, 3, 4, 5, 7, 8, 9, 12, 31, 32, 33, 34, 63, 64, 65, 66, 67] {
-                let pair =
-                    format!("{:02x}{key_type}{}{:02x}{}", data + 1, &key.repeat(2)[..2 * data], value, many("07", value));
+                let pair = format!(
+                    "{:02x}{key_type}{}{:02x}{}",
+                    data + 1,
+                    &key.repeat(2)[..2 * data],
+                    value,
+                    many("07", value)
+                );
                 let mut pairs: [Vec<&str>; 3] = [global.to_vec(), vec![], vec![SCRIPT]];
                 pairs[kind].push(&pair);
                 // By key: the type is the second byte of a pair.
@@ -221,7 +241,9 @@ fn corners() -> Vec<Vec<u8>> {
         }
     }
     // Order before value, and order after it; key data decides; the next map begins anew.
-    for pair in ["0102ff", "0102ffffffffffffffffff", "0102", "010203020000", "02020000", "0202", "010104", "0101", "010100"] {
+    for pair in
+        ["0102ff", "0102ffffffffffffffffff", "0102", "010203020000", "02020000", "0202", "010104", "0101", "010100"]
+    {
         let mut file = hex(MAGIC);
         file.extend(hex(TX));
         file.extend(hex(pair));

@@ -112,8 +112,7 @@ fn generated<W: Write>(seed: u64, sink: &mut Sink<W>) -> io::Result<()> {
 fn main() -> io::Result<()> {
     let arguments: Vec<String> = std::env::args().skip(1).collect();
     let words: Vec<&str> = arguments.iter().map(String::as_str).collect();
-    let mut sink =
-        Sink { to: BufWriter::new(io::stdout().lock()), left: u64::MAX, bytes: 0, made: BTreeMap::new() };
+    let mut sink = Sink { to: BufWriter::new(io::stdout().lock()), left: u64::MAX, bytes: 0, made: BTreeMap::new() };
     match words[..] {
         ["fixed"] => fixed::all(&mut sink)?,
         ["long"] => fixed::long(&mut sink)?,

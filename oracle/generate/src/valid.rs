@@ -16,8 +16,22 @@ struct Names {
 pub fn word(random: &mut Random) -> Vec<u8> {
     let any = random.number() as u32;
     let number: u32 = random.pick(&[
-        0, 1, 2, 0xff, 800_000, 499_999_998, 499_999_999, 500_000_000, 500_000_001, 1_700_000_000, 0x7fff_ffff, 0x8000_0000,
-        0xffff_fffe, 0xffff_ffff, any, any,
+        0,
+        1,
+        2,
+        0xff,
+        800_000,
+        499_999_998,
+        499_999_999,
+        500_000_000,
+        500_000_001,
+        1_700_000_000,
+        0x7fff_ffff,
+        0x8000_0000,
+        0xffff_fffe,
+        0xffff_ffff,
+        any,
+        any,
     ]);
     number.to_le_bytes().to_vec()
 }
@@ -42,11 +56,11 @@ fn amount(random: &mut Random) -> Vec<u8> {
 
 /// A short length now and then at the edges of the forms of a compact size.
 fn length(random: &mut Random) -> usize {
-    match random.below(2_000) {
+    match random.below(20_000) {
         0 => random.pick(&[65_535, 65_536, 65_537]),
-        1..=12 => random.between(253, 3_000),
-        13..=40 => random.pick(&[0xfb, 0xfc, 0xfd, 0xfe, 0xff, 0x100]),
-        41..=400 => 0,
+        1..=60 => random.between(253, 3_000),
+        61..=300 => random.pick(&[0xfb, 0xfc, 0xfd, 0xfe, 0xff, 0x100]),
+        301..=4_000 => 0,
         _ => random.between(1, 34),
     }
 }
@@ -254,12 +268,13 @@ fn form(random: &mut Random, rare: u64) -> u8 {
 }
 
 fn extras(random: &mut Random, few: bool) -> usize {
-    match random.below(20) {
+    match random.below(100) {
         _ if few => random.pick(&[0, 0, 0, 1]),
-        0..=9 => random.between(0, 1),
-        10..=16 => random.between(1, 3),
-        17..=18 => random.between(3, 8),
-        _ => random.between(6, 24),
+        0..=49 => 0,
+        50..=79 => 1,
+        80..=93 => random.between(2, 3),
+        94..=97 => random.between(4, 8),
+        _ => random.between(8, 24),
     }
 }
 
@@ -278,7 +293,7 @@ pub fn draft(random: &mut Random) -> Draft {
         0 => random.pick(&[252, 253, 254, 260]),
         1..=8 => random.between(5, 40),
         9..=200 => 0,
-        201..=700 => 1,
+        201..=840 => 1,
         _ => random.between(2, 3),
     };
     let (inputs, outputs) = (numbers(random), numbers(random));
