@@ -3,9 +3,10 @@
 //!     compare OURS THEIRS [--whole] [--records RECORDS]
 //!     compare --count ANSWERS
 //!
-//! Without `--whole`, a line of OURS that is a 22 or a 23 is skipped and counted: the other side knows no rooms. A line of
-//! THEIRS that is only `no NUMBER` is compared by its number. With `--records` the shortest record of those that differ is
-//! shown. Ends with 1 if anything differed.
+//! Without `--whole`, a line of OURS that is a 22 or a 23 is skipped and counted: the other side knows no rooms. Only its
+//! entries are looked at: they must be the first of theirs, and for a 22 theirs must have another pair. A line of THEIRS that is
+//! only `no NUMBER` is compared by its number. With `--records` a 22 or 23 must have used up its room, and the shortest record of
+//! those that differ is shown. Ends with 1 if anything differed or nothing was compared.
 
 use std::collections::BTreeMap;
 use std::fs::File;
@@ -20,6 +21,28 @@ fn verdict(line: &str) -> &str {
         return &line[..first];
     }
     &line[..ends.next().unwrap_or(line.len())]
+}
+
+/// Whether the entries of a line that rooms cut short are the first ones of the other line.
+fn begins(ours: &str, theirs: &str) -> bool {
+    let entries = |line: &str| -> Option<[Vec<String>; 2]> {
+        let mut parts = line.split(':').skip(1).map(|part| part.split_whitespace().map(String::from).collect());
+        Some([parts.next()?, parts.next()?])
+    };
+    let (Some([our_pairs, our_maps]), Some([their_pairs, their_maps])) = (entries(ours), entries(theirs)) else {
+        return false;
+    };
+    let another = verdict(ours) != "no 22" || their_pairs.len() > our_pairs.len();
+    their_pairs.starts_with(&our_pairs) && their_maps.starts_with(&our_maps) && another
+}
+
+/// Whether a 22 or a 23 has used up the room that the record gave.
+fn full(line: &str, record: &records::Record) -> bool {
+    let (word, room) = match verdict(line) {
+        "no 22" => (2, records::PAIRS.min(record.pair_room as usize)),
+        _ => (3, records::MAPS.min(record.map_room as usize)),
+    };
+    line.split(' ').nth(word).and_then(|used| used.parse::<usize>().ok()).is_some_and(|used| used >= room)
 }
 
 /// Refusals by their number, then the rest.
@@ -80,7 +103,7 @@ fn run(arguments: &[String]) -> io::Result<bool> {
         Some(path) => Some(BufReader::new(File::open(path)?)),
         None => None,
     };
-    let (mut compared, mut by_number, mut skipped, mut differing) = (0u64, 0u64, 0u64, 0u64);
+    let (mut compared, mut by_number, mut equals, mut skipped, mut differing) = (0u64, 0u64, 0u64, 0u64, 0u64);
     let mut shortest: Option<(u64, records::Record)> = None;
     for at in 1u64.. {
         let (our, their) = (ours.next().transpose()?, theirs.next().transpose()?);
@@ -97,18 +120,24 @@ fn run(arguments: &[String]) -> io::Result<bool> {
         };
         let row = counts.entry(verdict(&our).to_string()).or_default();
         row[0] += 1;
-        if !whole && matches!(verdict(&our), "no 22" | "no 23") {
+        let numbered = verdict(&their) == their && their.starts_with("no ");
+        let equal = if !whole && matches!(verdict(&our), "no 22" | "no 23") {
             skipped += 1;
-            continue;
-        }
-        compared += 1;
-        let equal = if verdict(&their) == their && their.starts_with("no ") {
-            by_number += 1;
-            verdict(&our) == their
+            if (numbered || begins(&our, &their)) && record.as_ref().is_none_or(|record| full(&our, record)) {
+                continue;
+            }
+            false
         } else {
-            our == their
+            compared += 1;
+            if numbered {
+                by_number += 1;
+                verdict(&our) == their
+            } else {
+                our == their
+            }
         };
         if equal {
+            equals += 1;
             continue;
         }
         row[1] += 1;
@@ -134,10 +163,9 @@ fn run(arguments: &[String]) -> io::Result<bool> {
     }
     show(&counts, "  answer     lines differing");
     println!(
-        "compared {compared} ({by_number} by number alone), equal {}, skipped {skipped}, differing {differing}",
-        compared - differing
+        "compared {compared} ({by_number} by number alone), equal {equals}, skipped {skipped}, differing {differing}"
     );
-    Ok(differing == 0)
+    Ok(differing == 0 && compared > 0)
 }
 
 fn main() -> ExitCode {

@@ -250,22 +250,27 @@ fn corners() -> Vec<Vec<u8>> {
         files.push(file);
         files.push(maps(&[&[TX, pair, "01040100", "01050100", VERSION]]));
     }
-    // Keys and values of lengths about the forms of a compact size, in every form.
-    for length in [0xfcu64, 0xfd, 0xff, 0x100, 0xffff, 0x1_0000] {
+    files.extend(forms(&[0xfc, 0xfd, 0xff, 0x100]));
+    files
+}
+
+/// Keys and values of these lengths, their compact sizes in every form that holds them.
+fn forms(lengths: &[usize]) -> Vec<Vec<u8>> {
+    let mut files = Vec::new();
+    for length in lengths {
         for form in 0..4 {
             for in_key in [true, false] {
-                let mut file = hex(MAGIC);
-                for pair in [TX, "01040100", "01050100", VERSION] {
-                    file.extend(hex(pair));
-                }
-                put_size(&mut file, if in_key { length } else { 1 }, if in_key { form } else { 0 });
-                file.push(0xfc);
+                let mut file = e();
+                file.pop();
                 if in_key {
-                    file.extend(vec![0x31; length as usize - 1]);
+                    put_size(&mut file, *length as u64, form);
+                    file.push(0xfc);
+                    file.extend(vec![0x31; length - 1]);
                     file.push(0);
                 } else {
-                    put_size(&mut file, length, form);
-                    file.extend(vec![0x31; length as usize]);
+                    file.extend(hex("01fc"));
+                    put_size(&mut file, *length as u64, form);
+                    file.extend(vec![0x31; *length]);
                 }
                 file.push(0);
                 files.push(file);
@@ -354,6 +359,9 @@ pub fn long<W: Write>(sink: &mut Sink<W>) -> io::Result<()> {
     sink.put("length", (0, 0), &filled(limit + 1))?;
     sink.put("length", AMPLE, &vec![0; limit])?;
     sink.put("length", AMPLE, &vec![0; limit + 1])?;
+    for file in forms(&[0xffff, 0x1_0000]) {
+        sink.put("form", AMPLE, &file)?;
+    }
     // As many pairs and maps as there is room for, and one more.
     for pairs in [records::PAIRS, records::PAIRS + 1] {
         let mut file = e();
