@@ -1,5 +1,5 @@
-//! Takes the original from the path in FASTPSBT_RS. Its text is compiled as it is, to its last byte; one line is put behind
-//! it, which declares `inside.rs` as a module within it, so that private fields can be shown.
+//! Takes the original from the path in FASTPSBT_RS. Its text is compiled as it is, to its last byte; one declaration is put
+//! behind it, of `inside.rs` as a module within it, so that private fields can be shown.
 
 use std::{env, fs, path::Path};
 

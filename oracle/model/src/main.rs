@@ -1,6 +1,6 @@
-//! A model of the reader with rooms, written from the rules of the format alone (`docs/DEFINITIONS.md` has them in words),
-//! neither from the original nor from the Rattle code. It answers the same records with the same lines, and it says what the
-//! original can't: 21, 22, 23 and what a refused parse leaves in the tables under small rooms.
+//! A model of the reader with rooms, written from the rules of the format (`docs/DEFINITIONS.md` has them in words) and, where
+//! these leave room, from the readings in `docs/DECISIONS.md`. No line of it comes from the original or from the Rattle code. It
+//! answers the same records with the same lines, and it says what the original can't: 22, 23 and what small rooms leave.
 //!
 //! It is a model, a third opinion. Nothing is proved about it.
 
