@@ -1,12 +1,12 @@
 -- A type that isn't listed has no field rule: each row of the table has a listed type, by one computed test, and so have the three types with a rule besides.
 use mathlib.Core.Path.{_≡_, refl, sym, _∙_, ap, subst}
 use mathlib.Core.List.{List, [], _∷_}
-use mathlib.Core.Bool.{Bool, true, false, _&&_, _||_}
+use mathlib.Core.Bool.{Bool, true, false, _&&_}
 use Prim.Native.Nat.{ℕ}
 use borrow.Author.Tests.{eqb-true}
 use lib.Dec.{eqb}
 use lib.ListN.{length}
-use Rattle.format.specs.Tests.{pick, every}
+use Rattle.format.specs.Tests.{every}
 use Rattle.format.specs.Keys.{typeOf, dataOf}
 use Rattle.format.specs.Rules.{GLOBAL, span, within, listedTypes, listed, sizedTypes, isRow, sizesIn, sizes, andThen, bareRule, rule}
 use Rattle.format.specs.declared.SizedType.{SizedType}

@@ -3,10 +3,13 @@ use format::GLOBAL;
 use format::INPUT;
 use format::OUTPUT;
 use format::PSBT_GLOBAL_FALLBACK_LOCKTIME;
+use format::PSBT_GLOBAL_INPUT_COUNT;
+use format::PSBT_GLOBAL_OUTPUT_COUNT;
 use format::PSBT_GLOBAL_SP_DLEQ;
 use format::PSBT_GLOBAL_SP_ECDH_SHARE;
 use format::PSBT_GLOBAL_TX_MODIFIABLE;
 use format::PSBT_GLOBAL_TX_VERSION;
+use format::PSBT_GLOBAL_UNSIGNED_TX;
 use format::PSBT_GLOBAL_VERSION;
 use format::PSBT_IN_OUTPUT_INDEX;
 use format::PSBT_IN_PREVIOUS_TXID;
@@ -23,10 +26,13 @@ use format::PSBT_OUT_SP_V0_INFO;
 use format::PSBT_OUT_SP_V0_LABEL;
 use format::PsbtError;
 use format::Ruled;
+use format::Size;
 use format::SizedType;
 ghost use mathlib.Core.Path.{_≡_};
-ghost use Rattle.format.specs.Rules.{valueFits, isRow, rowRule, sizes};
+ghost use Rattle.format.specs.Compact.{size, countBy};
+ghost use Rattle.format.specs.Rules.{valueFits, isRow, rowRule, sizes, countRule};
 ghost use Rattle.fields.specs.Rows.{isKept, bothFit};
+ghost use Rattle.fields.specs.Fronts.{isCount, bareRuleBy, isBare, ruleBy};
 
 // The value length of a row that marks a key origin.
 const ORIGIN: usize = 0;
@@ -239,4 +245,72 @@ pub fn check_sizes(kind: u8, key_type: u8, key_data_len: usize, value_len: usize
         i = i + 1;
     }
     Ruled::Passed
+}
+
+// A type whose value is a count, in a global key without data.
+fn is_count(key_type: u8) -> bool
+    ensures { λ r. ⌜ r ≡ isCount «key_type» ⌝ }
+{
+    if key_type == PSBT_GLOBAL_INPUT_COUNT {
+        true
+    } else {
+        key_type == PSBT_GLOBAL_OUTPUT_COUNT
+    }
+}
+
+// What is asked of a count field's value.
+fn count_rule(value_len: usize, front: &[u8]) -> Ruled
+    ensures { λ r. ⌜ r ≡ countRule (countBy «value_len» (size (now (front .entry)))) ⌝ }
+{
+    match wire::count_of(value_len, front) {
+        Size::Bad(e) => Ruled::Refused(e),
+        Size::Read { value: _, used: _ } => Ruled::Passed,
+    }
+}
+
+// What is asked of a global key without data besides sizes.
+fn bare_rule(key_type: u8, value_len: usize, front: &[u8]) -> Ruled
+    ensures { λ r. ⌜ r ≡ bareRuleBy «key_type» «value_len» (now (front .entry)) ⌝ }
+{
+    if key_type == PSBT_GLOBAL_UNSIGNED_TX {
+        return Ruled::Refused(PsbtError::NotAllowed);
+    }
+    if is_count(key_type) {
+        count_rule(value_len, front)
+    } else {
+        Ruled::Passed
+    }
+}
+
+// A global key without data.
+fn is_bare(kind: u8, key_data_len: usize) -> bool
+    ensures { λ r. ⌜ r ≡ isBare kind «key_data_len» ⌝ }
+{
+    if kind == GLOBAL {
+        key_data_len == 0
+    } else {
+        false
+    }
+}
+
+// The field rule of a pair, by its lengths and its value's first nine bytes, or more of them.
+pub fn field_rule(
+    kind: u8,
+    key_type: u8,
+    key_data_len: usize,
+    value_len: usize,
+    front: &[u8],
+) -> Ruled
+    ensures { λ r. ⌜ r ≡ ruleBy kind «key_type» «key_data_len» «value_len» (now (front .entry)) ⌝ }
+{
+    match check_sizes(kind, key_type, key_data_len, value_len) {
+        Ruled::Refused(e) => Ruled::Refused(e),
+        Ruled::Passed => {
+            if is_bare(kind, key_data_len) {
+                bare_rule(key_type, value_len, front)
+            } else {
+                Ruled::Passed
+            }
+        }
+    }
 }

@@ -59,7 +59,7 @@ unfolding mapsEvents mapsBytes mapsTrace mapEvents
 maps-events k [] r j h = refl
 maps-events k (m ∷ ms) r j h = rw (mapped-of k m (mapsBytes ms r) (h .0)) (ap (λ (x : Reading). begins (pairEvents (m .pairs) (ended (m .end) x))) (maps-events k ms r (λ ns q. j (m ∷ ns) q) (h .1)))
 
-pub events-of : (c : Content) → FineFile c → events (bytes c) ≡ mapsTrace (mapsOf c) (done c)
+events-of : (c : Content) → FineFile c → events (bytes c) ≡ mapsTrace (mapsOf c) (done c)
 unfolding events bytes mapEvents globalThen unless lastly mapsOf mapsTrace
 events-of c h =
     rw (le-leb _ _ (h .short), same-self magic, mapped-of GLOBAL (c .global) (mapsBytes (c .ins) (mapsBytes (c .outs) [])) (h .global), h .rule, ← h .ins#, ← h .outs#)
@@ -142,7 +142,7 @@ module _ (f s : List ℕ) (is : magic ++ s ≡ f) (short : length f ≤ limit) w
       (λ t. (b, record { global = G; ins = I; outs = O; rule = z; ins# = i#; outs# = o#; late = t; short = subst (λ (x : List ℕ). length x ≤ limit) (sym b) short }))
 
   global-holds : (g : Map) (r : List ℕ) → mapBytes g r ≡ s → FineMap GLOBAL g → Holds f (globalThen g r)
-  unfolding globalThen outcome
+  unfolding globalThen
   global-holds g r e G =
       unless-holds f _ (globalRule (g .pairs))
       (λ t. maps-hold f INPUT _ r _ (λ ms q i I i#. maps-hold f OUTPUT _ q _ (λ os x j O o#.
@@ -161,6 +161,10 @@ verdict-is f =
 pub reading-is : (f : List ℕ) (c : Content) → reading f ≡ accepted c → (bytes c ≡ f) × FineFile c
 unfolding reading
 reading-is f c e = rw e at (verdict-is f)
+
+-- so what happens in an accepted file is known
+pub accepted-events : (f : List ℕ) (c : Content) → reading f ≡ accepted c → events f ≡ mapsTrace (mapsOf c) (done c)
+accepted-events f c e = let i = reading-is f c e in ap events (sym (i .0)) ∙ events-of c (i .1)
 
 -- an accepted file has the maps that it reports
 pub one-plus-counts : (f : List ℕ) (c : Content) → reading f ≡ accepted c → length (mapsOf c) ≡ mapsReported (psbtOf (c .global .pairs))

@@ -86,8 +86,9 @@ cut-gives : (r : Reading) (o at p m i : ℕ) (P M : List ℕ) → Orderly o r �
 unfolding cut
 cut-gives (done c) o at p m i P M h = λ e p′ m′ P′ M′ q. cc
 cut-gives (refusal x) o at p m i P M h = λ e p′ m′ P′ M′ q. cc (of-file x h)
-cut-gives (begins r) o at p m i P M h =
-    pick-by Parses (hasRoom mapWords m M) _ _ (λ t. cut-gives r (suc o) at p m i P M h) (λ t e p′ m′ P′ M′ q. cc maps-full)
+cut-gives (begins r) zero at p m i P M h =
+    pick-by Parses (hasRoom mapWords m M) _ _ (λ t. cut-gives r 1 at p m i P M h) (λ t e p′ m′ P′ M′ q. cc maps-full)
+cut-gives (begins r) (suc o) at p m i P M h = absurd h
 cut-gives (pair x r) o at p m i P M h =
     pick-by Parses (hasRoom pairWords p P) _ _ (λ t. cut-gives r o (at + width x) (p + 1) m i (putPair P p (entryOf at x)) M h) (λ t e p′ m′ P′ M′ q. cc pairs-full)
 cut-gives (ended a r) zero at p m i P M h = absurd h

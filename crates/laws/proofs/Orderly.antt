@@ -149,11 +149,12 @@ unfolding items ofFile given within span numberOf
 items-of zero k last s = refl
 items-of (suc n) k last s = turn-of (items n k) (λ l t. items-of n k l t) (item k last s) (item-of k last s)
 
--- in the reading, o maps stand begun
+-- a reading before which o maps stand begun, none or one
 abbrev pub Orderly : ℕ → Reading → Type 0
 Orderly o (done c) = o ≡ 0
 Orderly o (refusal e) = OfFile e
-Orderly o (begins r) = Orderly (suc o) r
+Orderly zero (begins r) = Orderly 1 r
+Orderly (suc o) (begins r) = ⊥
 Orderly o (pair p r) = Orderly o r
 Orderly zero (ended a r) = ⊥
 Orderly (suc o) (ended a r) = Orderly o r

@@ -7,16 +7,17 @@ use native.Mathlib.Omega.{arith}
 use lib.ListN.{length, set, length-append}
 use lib.Seq.{sets, length-sets, sets-eq}
 use Rattle.format.specs.Content.{Pair, Map, Content, mapsOf, magic, psbtOf}
-use Rattle.format.specs.Reading.{Reading, done, ended, pairEvents, events, accepted, reading}
+use Rattle.format.specs.Reading.{Reading, done, ended, pairEvents, events, Verdict, accepted, refused, reading}
 use Rattle.format.specs.Entries.{pairWords, mapWords, pairEntryWords, mapEntryWords, putPair, putMap, entryOf, width}
 use Rattle.format.specs.Parse.{out, cut, parsed}
 use Rattle.format.specs.declared.Psbt.{Psbt}
 use Rattle.format.specs.declared.PairEntry.{PairEntry}
 use Rattle.format.specs.declared.MapEntry.{MapEntry}
 use Rattle.format.specs.declared.Parsed.the-variants.{Accepted}
-use Rattle.laws.specs.Shown.{behind, behindMap, entries, mapsEntries, runs, pairsIn, joined, onto, pairTable, mapTable, Room}
-use Rattle.laws.proofs.Files.{mapsTrace, events-of, reading-is}
-use Rattle.laws.proofs.Rooms.{has-room}
+use Rattle.laws.specs.Rooms.{pairs#, begun#, Roomy, answer}
+use Rattle.laws.specs.Shown.{behind, behindMap, entries, mapsEntries, runs, pairsIn, joined, onto, pairTable, mapTable, Room, Accepts}
+use Rattle.laws.proofs.Files.{mapsTrace, accepted-events}
+use Rattle.laws.proofs.Rooms.{has-room, room-refuses, accepted-roomy}
 
 -- words written behind words are written together
 sets-append : (l xs ys : List ℕ) (i : ℕ) → sets (sets l i xs) (i + length xs) ys ≡ sets l i (xs ++ ys)
@@ -25,7 +26,7 @@ sets-append l (x ∷ xs) ys i = ap (λ (n : ℕ). sets (sets (set l i x) (suc i)
 
 -- entries of w words each
 module _ {A : Type 0} (f : A → List ℕ) (w : ℕ) (wide : (x : A) → length (f x) ≡ w) where
-  pub length-joined : (xs : List A) → length (joined f xs) ≡ length xs * w
+  length-joined : (xs : List A) → length (joined f xs) ≡ length xs * w
   unfolding joined
   length-joined [] = omega arith
   length-joined (x ∷ xs) = rw (length-append, wide x, length-joined xs) (omega arith)
@@ -42,15 +43,15 @@ module _ {A : Type 0} (f : A → List ℕ) (w : ℕ) (wide : (x : A) → length 
       ∙ sets-append t (joined f xs) (joined f ys) (n * w)
       ∙ ap (sets t (n * w)) (sym (joined-append xs ys))
 
-  pub onto-is : (t : List ℕ) (xs : List A) → length xs * w ≤ length t → sets t 0 (joined f xs) ≡ onto t (joined f xs)
+  onto-is : (t : List ℕ) (xs : List A) → length xs * w ≤ length t → sets t 0 (joined f xs) ≡ onto t (joined f xs)
   unfolding onto
   onto-is t xs h = sets-eq (joined f xs) t 0 (rw (length-joined xs) (omega arith)) ∙ rw zero-add
 
-pub pair-wide : (e : PairEntry) → length (pairEntryWords e) ≡ pairWords
+pair-wide : (e : PairEntry) → length (pairEntryWords e) ≡ pairWords
 unfolding pairEntryWords
 pair-wide e = refl
 
-pub map-wide : (e : MapEntry) → length (mapEntryWords e) ≡ mapWords
+map-wide : (e : MapEntry) → length (mapEntryWords e) ≡ mapWords
 unfolding mapEntryWords
 map-wide e = refl
 
@@ -60,12 +61,12 @@ unfolding entries
 length-entries at [] = refl
 length-entries at (p ∷ ps) = ap suc (length-entries (at + width p) ps)
 
-pub length-mapsEntries : (at : ℕ) (ms : List Map) → length (mapsEntries at ms) ≡ pairsIn ms
+length-mapsEntries : (at : ℕ) (ms : List Map) → length (mapsEntries at ms) ≡ pairsIn ms
 unfolding mapsEntries pairsIn
 length-mapsEntries at [] = refl
 length-mapsEntries at (m ∷ ms) = rw (length-append, length-entries, length-mapsEntries (behindMap at m) ms)
 
-pub length-runs : (p : ℕ) (ms : List Map) → length (runs p ms) ≡ length ms
+length-runs : (p : ℕ) (ms : List Map) → length (runs p ms) ≡ length ms
 unfolding runs
 length-runs p [] = refl
 length-runs p (m ∷ ms) = ap suc (length-runs (p + length (m .pairs)) ms)
@@ -104,9 +105,49 @@ pub parse-is : (f : List ℕ) (c : Content) (P M : List ℕ) → reading f ≡ a
     → parsed f P M ≡ out (Accepted (psbtOf (c .global .pairs)) (pairsIn (mapsOf c)) (length (mapsOf c))) (pairTable c P) (mapTable c M)
 unfolding parsed pairTable mapTable
 parse-is f c P M e w =
-    let i = reading-is f c e in
-    ap (cut (length magic) 0 0 0 P M) (ap events (sym (i .0)) ∙ events-of c (i .1))
+    ap (cut (length magic) 0 0 0 P M) (accepted-events f c e)
     ∙ cut-maps (mapsOf c) c (length magic) 0 0 P M (omega (arith, w .pairs)) (omega (arith, w .maps))
     ∙ out-same _ _ _ _ _ _ _ _ _ (zero-add _) (zero-add _)
     (onto-is pairEntryWords pairWords pair-wide P (mapsEntries (length magic) (mapsOf c)) (rw length-mapsEntries (w .pairs)))
     (onto-is mapEntryWords mapWords map-wide M (runs 0 (mapsOf c)) (rw length-runs (w .maps)))
+
+-- the room that a reading asks is the room that its content asks
+pairs-pairs# : (ps : List Pair) (t : Reading) → pairs# (pairEvents ps t) ≡ length ps + pairs# t
+unfolding pairs# pairEvents
+pairs-pairs# [] t = omega arith
+pairs-pairs# (p ∷ ps) t = omega (arith, pairs-pairs# ps t)
+
+pairs-begun# : (ps : List Pair) (t : Reading) → begun# (pairEvents ps t) ≡ begun# t
+unfolding begun# pairEvents
+pairs-begun# [] t = refl
+pairs-begun# (p ∷ ps) t = pairs-begun# ps t
+
+trace-asks : (ms : List Map) (c : Content) → (pairs# (mapsTrace ms (done c)) ≡ pairsIn ms) × (begun# (mapsTrace ms (done c)) ≡ length ms)
+unfolding mapsTrace pairs# begun# pairsIn
+trace-asks [] c = (refl, refl)
+trace-asks (m ∷ ms) c =
+    let i = trace-asks ms c in (
+      pairs-pairs# (m .pairs) (ended (m .end) (mapsTrace ms (done c))) ∙ ap (λ (n : ℕ). length (m .pairs) + n) (i .0),
+      ap suc (pairs-begun# (m .pairs) (ended (m .end) (mapsTrace ms (done c))) ∙ i .1),
+    )
+
+room-of : (f : List ℕ) (c : Content) (P M : List ℕ) → reading f ≡ accepted c → Roomy (events f) P M → Room c P M
+room-of f c P M e h =
+    let t = accepted-events f c e in
+    let a = trace-asks (mapsOf c) c in
+    record { pairs = rw (t, a .0) at (h .pairs); maps = rw (t, a .1) at (h .maps) }
+
+-- whatever the tables, a parse is accepted only of an accepted file, and reports and leaves that file's content
+pub accepted-is : (f P M : List ℕ) (s : Psbt) (p m : ℕ) (P′ M′ : List ℕ) → parsed f P M ≡ out (Accepted s p m) P′ M′ → Accepts f P M s p m P′ M′
+unfolding answer
+accepted-is f P M s p m P′ M′ q = by (reading f) refl
+  where
+    by : (v : Verdict) → reading f ≡ v → Accepts f P M s p m P′ M′
+    by (refused e) r =
+        let a = room-refuses f P M e r (accepted-roomy f P M s p m P′ M′ q) in
+        let b = ap answer q in
+        let z : _≡_ {A = ℕ} 0 1 = cc in
+        absurd (omega arith)
+    by (accepted c) r =
+        let a = parse-is f c P M r (room-of f c P M r (accepted-roomy f P M s p m P′ M′ q)) in
+        record { content = c; reads = r; reports = cc; pairs = cc; maps = cc; pairs-left = cc; maps-left = cc }

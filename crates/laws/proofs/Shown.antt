@@ -23,7 +23,7 @@ use Rattle.format.proofs.Tests.{pick-by, and-left, and-right}
 use Rattle.format.proofs.Numbers.{All}
 use Rattle.format.proofs.Keys.{below-is}
 use Rattle.laws.specs.Fine.{Framed, Rises, FineMap, FineFile}
-use Rattle.laws.specs.Shown.{bare, viewBy, behind, behindMap, entries, mapsEntries, entriesBy, runs, joined, onto, pairTable, mapTable}
+use Rattle.laws.specs.Shown.{bare, viewBy, behind, behindMap, entries, mapsEntries, entriesBy, runs, joined, onto, pairTable, mapTable, Accepts}
 use Rattle.laws.proofs.Files.{reading-is, one-plus-counts}
 use Rattle.laws.proofs.Parsed.{length-entries}
 
@@ -245,3 +245,7 @@ module _ (f : List ℕ) (c : Content) (P M : List ℕ) (e : reading f ≡ accept
       → (every (inFile f) es ≡ true) × (viewBy m (mapsOf c) ≡ shows (map (shown f) es))
   unfolding view viewOf
   entries-show m es h = (held-shows f (pairTable c P) (mapTable c M) (psbtOf (c .global .pairs)) m es h .0, sym (view-is m) ∙ ap (viewOf f) h)
+
+-- whatever the room, so do the tables that an accepted parse leaves
+pub accepted-shows : (f P M : List ℕ) (s : Psbt) (p m : ℕ) (P′ M′ : List ℕ) (a : Accepts f P M s p m P′ M′) → (n : ℕ) → view f P′ M′ s n ≡ viewBy n (mapsOf (a .content))
+accepted-shows f P M s p m P′ M′ a n = rw (a .reports, a .pairs-left, a .maps-left) (view-is f (a .content) P M (a .reads) n)

@@ -1,11 +1,14 @@
 -- The tables that an accepted file leaves, and what they show.
+use mathlib.Core.Path.{_≡_}
 use Prim.Native.Nat.{ℕ, zero, suc, _+_, _*_, _≤_}
 use mathlib.Core.List.{List, [], _∷_, _++_, map}
 use lib.ListN.{length, drop}
-use Rattle.format.specs.Content.{Pair, Map, Content, mapsOf, magic}
+use Rattle.format.specs.Content.{Pair, Map, Content, mapsOf, magic, psbtOf}
+use Rattle.format.specs.Reading.{accepted, reading}
 use Rattle.format.specs.Entries.{pairWords, mapWords, pairEntryWords, mapEntryWords, entryOf, width}
 use Rattle.format.specs.Tables.{Held, no, holds, View, hides, shows}
 use Rattle.format.specs.declared.PsbtError.the-variants.{OutOfRange}
+use Rattle.format.specs.declared.Psbt.{Psbt}
 use Rattle.format.specs.declared.PairEntry.{PairEntry}
 use Rattle.format.specs.declared.MapEntry.{MapEntry}
 
@@ -72,3 +75,13 @@ mapTable c M = onto M (joined mapEntryWords (runs 0 (mapsOf c)))
 pub record Room (c : Content) (P M : List ℕ) : Type 0 where
   pub pairs : pairsIn (mapsOf c) * pairWords ≤ length P
   pub maps : length (mapsOf c) * mapWords ≤ length M
+
+-- an accepted parse: the file is accepted with a content, and the parse reports and leaves that content's
+pub record Accepts (f P M : List ℕ) (s : Psbt) (p m : ℕ) (P′ M′ : List ℕ) : Type 0 where
+  pub content : Content
+  pub reads : reading f ≡ accepted content
+  pub reports : s ≡ psbtOf (content .global .pairs)
+  pub pairs : p ≡ pairsIn (mapsOf content)
+  pub maps : m ≡ length (mapsOf content)
+  pub pairs-left : P′ ≡ pairTable content P
+  pub maps-left : M′ ≡ mapTable content M

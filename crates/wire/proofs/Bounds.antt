@@ -1,13 +1,13 @@
 -- What an answer says of the bytes, case by case, and the bounds that callers need of it.
 use mathlib.Core.Path.{_≡_, refl, sym, _∙_, ap}
-use mathlib.Core.Bool.{true, false}
 use mathlib.Core.List.{List, [], _∷_}
 use Prim.Native.Nat.{ℕ, _+_, _-_, _^_, _≤_, _<_}
 use native.Mathlib.Omega.{arith}
 use borrow.Author.Tests.{leb-true, leb-false}
 use lib.Dec.{leb, ltb, eqb}
 use lib.ListN.{length, take, drop, length-drop}
-use Rattle.format.specs.Numbers.{le}
+use mir.Syntax.{w64}
+use mir.Val.{Fits}
 use Rattle.format.specs.Compact.{long, sizeBy, size, countBy}
 use Rattle.format.specs.declared.PsbtError.{PsbtError}
 use Rattle.format.specs.declared.PsbtError.the-variants.{UnexpectedEof, InvalidCompactSize}
@@ -107,8 +107,18 @@ module _ (s : List ℕ) (p n : ℕ) (o : Taken) (at : o ≡ takeAt s p n) where
     pub take-next : c .pos ≡ a + n
     take-next = let i = take-is in omega arith
 
+    pub take-order : a ≤ c .pos
+    take-order = omega (arith, take-next)
+
+    -- from a place in the buffer they stay in it
     pub take-in : p ≤ length s → a + n ≤ length s
     take-in h = let i = take-is in omega (arith, remaining-is s p)
+
+    pub take-ends : p ≤ length s → c .pos ≤ length s
+    take-ends h = omega (arith, take-next, take-in h)
+
+    pub take-sum : p ≤ length s → length s < 2 ^ 64 → Fits w64 (a + n)
+    take-sum h l = record { fits = omega (arith, take-in h) }
 
 -- a compact size that was read at a place
 pub record SizeIs (s : List ℕ) (p n : ℕ) (c : Cursor) : Type 0 where
@@ -150,8 +160,8 @@ module _ (s : List ℕ) (p : ℕ) (o : SizeRead) (at : o ≡ sizeAt s p) where
         let i = size-is in
         omega (arith, size-some (drop p s) (size (drop p s)) n (i .used) refl (i .is), size-in (drop p s) (size (drop p s)) n (i .used) refl (i .is), length-drop p s)
 
-    pub size-fits : Bytes8 s → n < 2 ^ 64
-    size-fits b = small (drop p s) (all-drop p s (bytes-all s b)) n (size-is .used) (size-is .is)
+    pub size-at-value : Bytes8 s → n < 2 ^ 64
+    size-at-value b = small (drop p s) (all-drop p s (bytes-all s b)) n (size-is .used) (size-is .is)
 
 -- bytes that were read behind their length at a place
 pub record PrefixedIs (s : List ℕ) (p a n : ℕ) (c : Cursor) : Type 0 where
@@ -200,6 +210,9 @@ module _ (s : List ℕ) (p : ℕ) (o : Prefixed) (at : o ≡ prefixedAt s p) whe
     pub prefixed-next : c .pos ≡ a + n
     prefixed-next = let i = prefixed-is in omega arith
 
+    pub prefixed-order : a ≤ c .pos
+    prefixed-order = omega (arith, prefixed-next)
+
     pub prefixed-in : a + n ≤ length s
     prefixed-in =
         let i = prefixed-is in
@@ -211,16 +224,28 @@ module _ (s : List ℕ) (p : ℕ) (o : Prefixed) (at : o ≡ prefixedAt s p) whe
           remaining-is s (p + i .used),
         )
 
+    pub prefixed-ends : c .pos ≤ length s
+    prefixed-ends = omega (arith, prefixed-next, prefixed-in)
+
+    pub prefixed-sum : length s < 2 ^ 64 → Fits w64 (a + n)
+    prefixed-sum l = record { fits = omega (arith, prefixed-in) }
+
 pub ruleset bounds = (
   size-some,
   size-in,
   size-value,
   take-next,
+  take-order,
   take-in,
+  take-ends,
+  take-sum,
   size-moves,
   size-ends,
-  size-fits,
+  size-at-value,
   prefixed-moves,
   prefixed-next,
+  prefixed-order,
   prefixed-in,
+  prefixed-ends,
+  prefixed-sum,
 )

@@ -1,20 +1,19 @@
 -- Laws of reading at a place: one for each way through each call.
-use mathlib.Core.Path.{_≡_, refl, sym, _∙_, ap}
+use mathlib.Core.Path.{_≡_, sym, _∙_, ap}
 use mathlib.Core.List.{List}
 use Prim.Native.Nat.{ℕ, _+_, _-_, _^_, _≤_, _<_}
 use native.Mathlib.Omega.{arith}
-use borrow.Author.Tests.{le-leb, lt-leb, leb-true}
+use borrow.Author.Tests.{le-leb, lt-leb}
 use lib.Dec.{leb}
-use lib.ListN.{length, take, drop, length-drop, drop-of-length-le}
+use lib.ListN.{length, take, drop, length-drop}
 use mir.Syntax.{w64}
 use mir.Val.{Fits}
-use Rattle.format.specs.Tests.{pick}
 use Rattle.format.specs.Compact.{size}
 use Rattle.format.specs.declared.PsbtError.{PsbtError}
 use Rattle.format.specs.declared.PsbtError.the-variants.{UnexpectedEof}
 use Rattle.format.specs.declared.Size.{Size}
 use Rattle.format.specs.declared.Size.the-variants as Z
-use Rattle.format.proofs.Tests.{pick-by, pick-ap}
+use Rattle.format.proofs.Tests.{pick-ap}
 use Rattle.wire.specs.declared.Cursor.{Cursor}
 use Rattle.wire.specs.declared.Taken.{Taken}
 use Rattle.wire.specs.declared.Taken.the-variants as T

@@ -6,10 +6,6 @@ use Rattle.format.specs.Rules.{sizedTypes}
 use Rattle.fields.proofs.Rows.{From, rows}
 use Rattle.fields.proofs.check_sizes.Statement.{statement}
 use Rattle.fields.proofs.check_sizes.Tie as tie
-use Rattle.fields.proofs.check_sizes.Reads as reads
-use Rattle.fields.proofs.check_sizes.Lts as lts
-use Rattle.fields.proofs.is_row.Reads as is-row-reads
-use Rattle.fields.proofs.row_rule.Reads as row-rule-reads
 
 abbrev Inv-loop : tie.InvT-loop
 Inv-loop k t n m i₀ i = From k t n m i

@@ -3,8 +3,6 @@ use borrow.Author.Needs.{needs}
 use Rattle.fields.proofs.Rows.{row}
 use Rattle.fields.proofs.is_kept.Statement.{statement}
 use Rattle.fields.proofs.is_kept.Tie as tie
-use Rattle.fields.proofs.is_kept.Reads as reads
-use Rattle.fields.proofs.is_kept.Lts as lts
 
 -- needs: needs, row
 pub is-kept-spec : {M : Type 1} → statement M

@@ -4,8 +4,6 @@ use Rattle.format.specs.Rules.{isRow}
 use Rattle.format.proofs.Tests.{tests}
 use Rattle.fields.proofs.is_row.Statement.{statement}
 use Rattle.fields.proofs.is_row.Tie as tie
-use Rattle.fields.proofs.is_row.Reads as reads
-use Rattle.fields.proofs.is_row.Lts as lts
 
 -- needs: needs, tests | isRow
 pub is-row-spec : {M : Type 1} → statement M

@@ -4,8 +4,6 @@ use Rattle.format.specs.Rules.{valueFits}
 use Rattle.format.proofs.Tests.{tests}
 use Rattle.fields.proofs.value_fits.Statement.{statement}
 use Rattle.fields.proofs.value_fits.Tie as tie
-use Rattle.fields.proofs.value_fits.Reads as reads
-use Rattle.fields.proofs.value_fits.Lts as lts
 
 -- needs: needs, tests | valueFits
 pub value-fits-spec : {M : Type 1} → statement M
