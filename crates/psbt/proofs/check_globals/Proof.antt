@@ -1,27 +1,5 @@
 -- `psbt::check_globals` is the rule of the global map.
 use borrow.Author.Needs.{needs}
 use Rattle.psbt.proofs.Parts.{globals}
-use Rattle.psbt.proofs.check_globals.Statement.{statement}
-use Rattle.psbt.proofs.check_globals.Tie as tie
-use Rattle.psbt.proofs.check_globals.Reads as reads
-use Rattle.psbt.proofs.check_globals.Lts as lts
-use Rattle.psbt.proofs.is_counted.Reads as is-counted-reads
-use Rattle.psbt.proofs.is_there.Reads as is-there-reads
-use Rattle.psbt.proofs.or_zero.Reads as or-zero-reads
 
 -- needs: needs, globals
-pub check-globals-spec : {M : Type 1} → statement M
-check-globals-spec =
-    tie.close
-    (tie.spec
-    (λ c κs. search (needs, globals))
-    (λ c. search (needs, globals))
-    (λ c κs. search (needs, globals))
-    (λ c. search (needs, globals))
-    (λ c κs. search (needs, globals))
-    (λ c. search (needs, globals))
-    (λ c κs. search (needs, globals))
-    (λ c. search (needs, globals))
-    (λ c κs. search (needs, globals))
-    (λ c. search (needs, globals))
-    (λ c. search (needs, globals)))
