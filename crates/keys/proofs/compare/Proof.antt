@@ -1,0 +1,34 @@
+-- `keys::compare` meets its contract. The loop's invariant: the order from `i` on is that of the whole. The measure is what is left of `a`.
+use Prim.Native.Nat.{_-_}
+use borrow.Author.Needs.{needs}
+use lib.ListN.{length}
+use Rattle.keys.proofs.Orders.{On, orders}
+use Rattle.keys.proofs.compare.Statement.{statement}
+use Rattle.keys.proofs.compare.Tie as tie
+
+abbrev Inv-loop : tie.InvT-loop
+Inv-loop a b i₀ i = On a b i
+
+abbrev μ-loop : tie.MeasureT-loop
+μ-loop a b i₀ i = length a - i
+
+-- needs: needs, orders
+pub compare-spec : {M : Type 1} → statement M
+compare-spec =
+    tie.close
+    (tie.spec
+    Inv-loop
+    μ-loop
+    (λ c. search (needs, orders))
+    (λ c. search (needs, orders))
+    (λ c. search (needs, orders))
+    (λ c. search (needs, orders))
+    (λ c. search (needs, orders))
+    (λ c. search (needs, orders))
+    (λ c. search (needs, orders))
+    (λ c. search (needs, orders))
+    (λ c. search (needs, orders))
+    (λ c. search (needs, orders))
+    (λ c. search (needs, orders))
+    (λ c. search (needs, orders))
+    (λ c. search (needs, orders)))

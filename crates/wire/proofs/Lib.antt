@@ -1,0 +1,4 @@
+pub mod Bytes
+pub mod Leads
+pub mod Sizes
+pub mod Cursors

@@ -1,0 +1,36 @@
+-- `wire::read_size` meets its contract: each first byte leads to its case of the definition.
+use borrow.Author.Needs.{needs}
+use Rattle.wire.proofs.Bytes.{bytes}
+use Rattle.wire.proofs.Sizes.{sizes}
+use Rattle.wire.proofs.read_size.Statement.{statement}
+use Rattle.wire.proofs.read_size.Tie as tie
+use Rattle.wire.proofs.read_size.Reads as reads
+use Rattle.wire.proofs.read_size.Lts as lts
+use Rattle.wire.proofs.spelled.Reads as spelled-reads
+use Rattle.wire.proofs.u16_from_le_bytes.Reads as u16-from-le-bytes-reads
+use Rattle.wire.proofs.u32_from_le_bytes.Reads as u32-from-le-bytes-reads
+use Rattle.wire.proofs.u64_from_le_bytes.Reads as u64-from-le-bytes-reads
+
+-- needs: needs, bytes, sizes
+pub read-size-spec : {M : Type 1} → statement M
+read-size-spec =
+    tie.close
+    (tie.spec
+    (λ c. search (needs, bytes, sizes))
+    (λ c. search (needs, bytes, sizes))
+    (λ c. search (needs, bytes, sizes))
+    (λ c. search (needs, bytes, sizes))
+    (λ c. search (needs, bytes, sizes))
+    (λ c κs. search (needs, bytes, sizes))
+    (λ c. search (needs, bytes, sizes))
+    (λ c κs. search (needs, bytes, sizes))
+    (λ c κs. search (needs, bytes, sizes))
+    (λ c. search (needs, bytes, sizes))
+    (λ c κs. search (needs, bytes, sizes))
+    (λ c κs. search (needs, bytes, sizes))
+    (λ c κs. search (needs, bytes, sizes))
+    (λ c. search (needs, bytes, sizes))
+    (λ c. search (needs, bytes, sizes))
+    (λ c. search (needs, bytes, sizes))
+    (λ c. search (needs, bytes, sizes))
+    (λ c. search (needs, bytes, sizes)))

@@ -1,0 +1,205 @@
+// Little-endian numbers, compact sizes, and a cursor that reads them.
+use format::PsbtError;
+use format::Size;
+ghost use mathlib.Core.Path.{_≡_};
+ghost use Prim.Native.Nat.{_≤_};
+ghost use lib.ListN.{length};
+ghost use Rattle.format.specs.Numbers.{le};
+ghost use Rattle.format.specs.Compact.{size, count, countBy};
+ghost use Rattle.wire.specs.Leads.{lead, spelled};
+ghost use Rattle.wire.specs.Cursors.{cursor, remaining, takeAt, sizeAt, prefixedAt};
+
+fn wide(x: u8) -> u64
+    ensures { λ r. ⌜ r ≡ x ⌝ }
+{
+    x as u64
+}
+
+// The number that at most eight bytes spell, the lowest byte first.
+fn le(s: &[u8]) -> u64
+    requires { ⌜ length (now s) ≤ 8 ⌝ }
+    ensures { λ r. ⌜ r ≡ le (now (s .entry)) ⌝ }
+{
+    let mut v: u64 = 0;
+    let mut i: usize = s.len();
+    while 0 < i {
+        i = i - 1;
+        v = v * 256 + wide(s[i]);
+    }
+    v
+}
+
+// The number that the first `w` bytes spell, or all where there are fewer.
+fn lead(s: &[u8], w: usize) -> u64
+    requires { ⌜ w ≤ 8 ⌝ }
+    ensures { λ r. ⌜ r ≡ lead w (now (s .entry)) ⌝ }
+{
+    if w <= s.len() { le(&s[..w]) } else { le(s) }
+}
+
+pub fn u16_from_le_bytes(s: &[u8]) -> u16
+    ensures { λ r. ⌜ r ≡ lead 2 (now (s .entry)) ⌝ }
+{
+    lead(s, 2) as u16
+}
+
+pub fn u32_from_le_bytes(s: &[u8]) -> u32
+    ensures { λ r. ⌜ r ≡ lead 4 (now (s .entry)) ⌝ }
+{
+    lead(s, 4) as u32
+}
+
+pub fn u64_from_le_bytes(s: &[u8]) -> u64
+    ensures { λ r. ⌜ r ≡ lead 8 (now (s .entry)) ⌝ }
+{
+    lead(s, 8)
+}
+
+// What taking some bytes at a cursor finds: where they stand, and the cursor behind them.
+pub enum Taken {
+    Bad(PsbtError),
+    Part { start: usize, next: Cursor },
+}
+
+// What reading a compact size at a cursor finds: its value, and the cursor behind it.
+pub enum SizeRead {
+    Bad(PsbtError),
+    Read { value: u64, next: Cursor },
+}
+
+// What reading bytes behind their length finds: where they stand, how many they are, and the cursor behind them.
+pub enum Prefixed {
+    Bad(PsbtError),
+    Part {
+        start: usize,
+        len: usize,
+        next: Cursor,
+    },
+}
+
+// A number that `used` of `len` bytes spell: the refusal where there are fewer.
+fn spelled(len: usize, used: usize, value: u64) -> Size
+    ensures { λ r. ⌜ r ≡ spelled len used value ⌝ }
+{
+    if used <= len {
+        Size::Read { value, used }
+    } else {
+        Size::Bad(PsbtError::UnexpectedEof)
+    }
+}
+
+// A compact size at the front of some bytes: one byte up to fc, or 2, 4 or 8 bytes after fd, fe or ff.
+pub fn read_size(s: &[u8]) -> Size
+    ensures { λ r. ⌜ r ≡ size (now (s .entry)) ⌝ }
+{
+    let len = s.len();
+    if len == 0 {
+        return Size::Bad(PsbtError::UnexpectedEof);
+    }
+    let rest = &s[1..];
+    let b = s[0];
+    match b {
+        0x00..=0xfc => Size::Read {
+            value: b as u64,
+            used: 1,
+        },
+        0xfd => spelled(len, 3, u16_from_le_bytes(rest) as u64),
+        0xfe => spelled(len, 5, u32_from_le_bytes(rest) as u64),
+        0xff => spelled(len, 9, u64_from_le_bytes(rest)),
+    }
+}
+
+// A count field's value of `len` bytes, judged by its first nine.
+pub fn count_of(len: usize, front: &[u8]) -> Size
+    ensures { λ r. ⌜ r ≡ countBy len (size (now (front .entry))) ⌝ }
+{
+    match read_size(front) {
+        Size::Bad(e) => {
+            if len <= 1 {
+                Size::Bad(e)
+            } else {
+                Size::Bad(PsbtError::InvalidCompactSize)
+            }
+        }
+        Size::Read { value, used } => {
+            if len == used {
+                Size::Read { value, used }
+            } else {
+                Size::Bad(PsbtError::InvalidCompactSize)
+            }
+        }
+    }
+}
+
+// A count field's value: one compact size, whole.
+pub fn u64_from_compact_size(data: &[u8]) -> Size
+    ensures { λ r. ⌜ r ≡ count (now («data» .entry)) ⌝ }
+{
+    count_of(data.len(), data)
+}
+
+// A place in a buffer.
+pub struct Cursor {
+    pub pos: usize,
+}
+
+impl Cursor {
+    pub fn new(pos: usize) -> Self
+        ensures { λ r. ⌜ r ≡ cursor pos ⌝ }
+    {
+        Self { pos }
+    }
+
+    // How many bytes are left: past the end none.
+    pub fn remaining(self, buf: &[u8]) -> usize
+        ensures { λ r. ⌜ r ≡ remaining (now (buf .entry)) (self .pos) ⌝ }
+    {
+        let pos = self.pos;
+        if pos <= buf.len() { buf.len() - pos } else { 0 }
+    }
+
+    pub fn take(self, buf: &[u8], n: usize) -> Taken
+        ensures { λ r. ⌜ r ≡ takeAt (now (buf .entry)) (self .pos) n ⌝ }
+    {
+        let start = self.pos;
+        if self.remaining(buf) < n {
+            return Taken::Bad(PsbtError::UnexpectedEof);
+        }
+        Taken::Part {
+            start,
+            next: Cursor::new(start + n),
+        }
+    }
+
+    pub fn read_compact_size(self, buf: &[u8]) -> SizeRead
+        ensures { λ r. ⌜ r ≡ sizeAt (now (buf .entry)) (self .pos) ⌝ }
+    {
+        let pos = self.pos;
+        if buf.len() < pos {
+            return SizeRead::Bad(PsbtError::UnexpectedEof);
+        }
+        match read_size(&buf[pos..]) {
+            Size::Bad(e) => SizeRead::Bad(e),
+            Size::Read { value, used } => SizeRead::Read {
+                value,
+                next: Cursor::new(pos + used),
+            },
+        }
+    }
+
+    // The bytes behind their length.
+    pub fn read_len_prefixed(self, buf: &[u8]) -> Prefixed
+        ensures { λ r. ⌜ r ≡ prefixedAt (now (buf .entry)) (self .pos) ⌝ }
+    {
+        match self.read_compact_size(buf) {
+            SizeRead::Bad(e) => Prefixed::Bad(e),
+            SizeRead::Read { value, next } => {
+                let len = value as usize;
+                match next.take(buf, len) {
+                    Taken::Bad(e) => Prefixed::Bad(e),
+                    Taken::Part { start, next } => Prefixed::Part { start, len, next },
+                }
+            }
+        }
+    }
+}
