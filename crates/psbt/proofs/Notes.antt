@@ -29,7 +29,7 @@ use Rattle.format.proofs.Numbers.{All}
 use Rattle.laws.specs.Fine.{Rises, Keeps}
 use Rattle.wire.specs.Leads.{lead}
 use Rattle.wire.proofs.Bounds.{count-read}
-use Rattle.psbt.specs.Walks.{notedBy, asNumber, asCount, asThere, noted, notedCount, notedThere, noteGlobal, noteOutput, withGlobals, withSeen, note, noGlobals, unseen, there, countThere, countOf, globalsRule, psbtFrom, flags, seenRule}
+use Rattle.psbt.specs.Walks.{notedBy, asNumber, asCount, asThere, noted, notedCount, notedThere, noteGlobal, noteOutput, withGlobals, withSeen, note, noGlobals, unseen, there, countThere, countOf, allThere, versionRule, globalsRule, psbtFrom, flags, seenRule}
 use Rattle.psbt.specs.declared.Count.{Count}
 use Rattle.psbt.specs.declared.Count.the-variants as C
 use Rattle.psbt.specs.declared.Globals.{Globals}
@@ -241,7 +241,7 @@ unfolding psbtFrom foundGlobals psbtOf
 psbt-from ps = rw (zero-maybe (field 0x02 ps), count-of (field 0x04 ps), count-of (field 0x05 ps))
 
 pub global-rule : (ps : List Pair) → globalsRule (foundGlobals ps) ≡ globalRule ps
-unfolding globalsRule foundGlobals globalRule
+unfolding globalsRule allThere versionRule foundGlobals globalRule
 global-rule ps = rw (there-maybe (field 0x02 ps), there-count (field 0x04 ps), there-count (field 0x05 ps), there-maybe (field 0xfb ps), zero-maybe (field 0xfb ps))
 
 pub flags-are : (ps : List Pair) → flags (maybe (field 0x06 ps)) ≡ modifiable (field 0x06 ps)

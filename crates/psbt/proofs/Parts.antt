@@ -1,7 +1,7 @@
 -- Laws of the functions that carry what is known along a file, one for each way through them.
 use Prim.Native.Nat.{ℕ, _%_}
 use mathlib.Core.Path.{_≡_, refl, sym, _∙_, ap}
-use mathlib.Core.Bool.{Bool, true, false, not}
+use mathlib.Core.Bool.{Bool, true, false, not, _&&_}
 use mathlib.Core.List.{List, [], _∷_}
 use native.Mathlib.Omega.{arith}
 use borrow.Author.Tests.{eqb-true, eqb-false, eq-eqb, ne-eqb}
@@ -13,9 +13,10 @@ use Rattle.format.specs.Tests.{pick}
 use Rattle.format.specs.Numbers.{signed}
 use Rattle.format.specs.Keys.{keyOf, same}
 use Rattle.format.specs.Compact.{count}
-use Rattle.format.specs.Content.{sizeValue}
+use Rattle.format.specs.Content.{sizeValue, outputBy}
 use Rattle.format.specs.declared.PsbtError.{PsbtError}
-use Rattle.format.specs.declared.PsbtError.the-variants.{MissingCounts, NotAllowed}
+use Rattle.format.specs.declared.PsbtError.the-variants.{MissingCounts, NotAllowed, MissingOutputScript, InvalidSilentPayment}
+use Rattle.format.specs.declared.Ruled.{Ruled}
 use Rattle.format.specs.declared.Ruled.the-variants.{Passed, Refused}
 use Rattle.format.specs.declared.Size.{Size}
 use Rattle.format.specs.declared.Size.the-variants as Z
@@ -26,7 +27,7 @@ use Rattle.format.proofs.Tests.{no-by, pick-by}
 use Rattle.format.proofs.Keys.{same-is, same-self}
 use Rattle.wire.specs.Leads.{lead}
 use Rattle.format.specs.Locks.{orZero}
-use Rattle.psbt.specs.Walks.{notedBy, asNumber, asCount, asThere, noted, notedCount, notedThere, noteGlobal, noteOutput, withGlobals, withSeen, note, there, countThere, countOf, globalsRule, psbtFrom, flags}
+use Rattle.psbt.specs.Walks.{notedBy, asNumber, asCount, asThere, noted, notedCount, notedThere, noteGlobal, noteOutput, withGlobals, withSeen, note, there, countThere, countOf, allThere, versionRule, globalsRule, psbtFrom, flags}
 use Rattle.psbt.proofs.Notes.{note-global, note-output}
 use Rattle.psbt.specs.declared.Globals.{Globals}
 use Rattle.psbt.specs.declared.Seen.{Seen}
@@ -178,37 +179,64 @@ module _ (w : Walk) (key v : List ℕ) where
 
 pub ruleset pairNotes = (note-wide, note-g, note-o, note-i)
 
--- the rule of the global map: a, b, c and d say what is there
-module _ (g : Globals) (a b c d : Bool) where
-  pub no-version : a ≡ there (g .«tx_version») → a ≡ false → Refused MissingCounts ≡ globalsRule g
+-- all that has to be in the global map
+pub all-there : (g : Globals) (a b c d x y z : Bool) → a ≡ there (g .«tx_version») → b ≡ countThere (g .«n_inputs») → c ≡ countThere (g .«n_outputs») → d ≡ there (g .«psbt_version»)
+    → x ≡ (c && d) → y ≡ (b && x) → z ≡ (a && y) → z ≡ allThere g
+unfolding allThere
+all-there g a b c d x y z p q r s t u v = v ∙ rw (u, t, p, q, r, s)
+
+module _ (m : Maybe) (n : ℕ) (e : n ≡ orZero m) where
+  pub version-two : n ≡ 2 → Passed ≡ versionRule m
+  unfolding versionRule
+  version-two h = sym (rw (← e, eq-eqb n 2 h))
+
+  pub version-other : (n ≡ 2 → ⊥) → Refused NotAllowed ≡ versionRule m
+  unfolding versionRule
+  version-other h = sym (rw (← e, ne-eqb n 2 h))
+
+module _ (g : Globals) (b : Bool) (e : b ≡ allThere g) where
+  pub rule-there : (y : Ruled) → b ≡ true → y ≡ versionRule (g .«psbt_version») → y ≡ globalsRule g
   unfolding globalsRule
-  no-version p h = sym (rw (sym p ∙ h))
+  rule-there y h q = q ∙ sym (rw (sym e ∙ h))
 
-  module _ (p : a ≡ there (g .«tx_version»)) (h : a ≡ true) where
-    pub no-inputs : b ≡ countThere (g .«n_inputs») → b ≡ false → Refused MissingCounts ≡ globalsRule g
-    unfolding globalsRule
-    no-inputs q k = sym (rw (sym p ∙ h, sym q ∙ k))
+  pub rule-missing : b ≡ false → Refused MissingCounts ≡ globalsRule g
+  unfolding globalsRule
+  rule-missing h = sym (rw (sym e ∙ h))
 
-    module _ (q : b ≡ countThere (g .«n_inputs»)) (k : b ≡ true) where
-      pub no-outputs : c ≡ countThere (g .«n_outputs») → c ≡ false → Refused MissingCounts ≡ globalsRule g
-      unfolding globalsRule
-      no-outputs r l = sym (rw (sym p ∙ h, sym q ∙ k, sym r ∙ l))
+pub ruleset globals = (version-two, version-other, rule-there, rule-missing)
 
-      module _ (r : c ≡ countThere (g .«n_outputs»)) (l : c ≡ true) (s : d ≡ there (g .«psbt_version»)) where
-        pub no-psbt-version : d ≡ false → Refused MissingCounts ≡ globalsRule g
-        unfolding globalsRule
-        no-psbt-version m = sym (rw (sym p ∙ h, sym q ∙ k, sym r ∙ l, sym s ∙ m))
+-- the rule of an output: a label is fine beside a code
+labelled : (l : Bool) → pick (l && false) (Refused InvalidSilentPayment) Passed ≡ Passed
+labelled true = refl
+labelled false = refl
 
-        module _ (m : d ≡ true) (n : ℕ) (e : n ≡ orZero (g .«psbt_version»)) where
-          pub other-version : (n ≡ 2 → ⊥) → Refused NotAllowed ≡ globalsRule g
-          unfolding globalsRule
-          other-version x = sym (rw (sym p ∙ h, sym q ∙ k, sym r ∙ l, sym s ∙ m, sym e, ne-eqb n 2 x))
+module _ (f s c l : Bool) where
+  pub out-none : s ≡ false → c ≡ false → Refused MissingOutputScript ≡ outputBy f s c l
+  unfolding outputBy
+  out-none h k = sym (rw (h, k))
 
-          pub version-two : n ≡ 2 → Passed ≡ globalsRule g
-          unfolding globalsRule
-          version-two x = sym (rw (sym p ∙ h, sym q ∙ k, sym r ∙ l, sym s ∙ m, sym e, eq-eqb n 2 x))
+  pub out-code : s ≡ false → c ≡ true → Passed ≡ outputBy f s c l
+  unfolding outputBy
+  out-code h k = sym (rw (h, k) (labelled l))
 
-pub ruleset globals = (no-version, no-inputs, no-outputs, no-psbt-version, other-version, version-two)
+  pub out-script : s ≡ true → c ≡ false → l ≡ false → Passed ≡ outputBy f s c l
+  unfolding outputBy
+  out-script h k m = sym (rw (h, k, m))
+
+  pub out-label : s ≡ true → c ≡ false → l ≡ true → Refused InvalidSilentPayment ≡ outputBy f s c l
+  unfolding outputBy
+  out-label h k m = sym (rw (h, k, m))
+
+  module _ (b : Bool) (e : b ≡ f) where
+    pub out-flags : s ≡ true → c ≡ true → b ≡ true → Refused InvalidSilentPayment ≡ outputBy f s c l
+    unfolding outputBy
+    out-flags h k m = sym (rw (h, k, sym e ∙ m))
+
+    pub out-both : s ≡ true → c ≡ true → b ≡ false → Passed ≡ outputBy f s c l
+    unfolding outputBy
+    out-both h k m = sym (rw (h, k, sym e ∙ m) (labelled l))
+
+pub ruleset outputs = (out-none, out-code, out-script, out-label, out-flags, out-both)
 
 -- what is reported
 pub report : (g : Globals) (n i o : ℕ) (z : ℤ) → n ≡ orZero (g .«tx_version») → z ≡ signed n → i ≡ countOf (g .«n_inputs») → o ≡ countOf (g .«n_outputs»)

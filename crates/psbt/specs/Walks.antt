@@ -110,12 +110,17 @@ unfoldable pub countOf : Count → ℕ
 countOf C.Absent = 0
 countOf (C.Present n) = n
 
+-- all that has to be in the global map is there
+unfoldable pub allThere : Globals → Bool
+allThere g = there (g .«tx_version») && (countThere (g .«n_inputs») && (countThere (g .«n_outputs») && there (g .«psbt_version»)))
+
+-- its version is 2
+unfoldable pub versionRule : Maybe → Ruled
+versionRule m = pick (eqb (orZero m) 2) Passed (Refused NotAllowed)
+
 -- the rule of the global map, of what was noted
 unfoldable pub globalsRule : Globals → Ruled
-globalsRule g =
-    pick (there (g .«tx_version») && (countThere (g .«n_inputs») && (countThere (g .«n_outputs») && there (g .«psbt_version»))))
-    (pick (eqb (orZero (g .«psbt_version»)) 2) Passed (Refused NotAllowed))
-    (Refused MissingCounts)
+globalsRule g = pick (allThere g) (versionRule (g .«psbt_version»)) (Refused MissingCounts)
 
 -- what is reported of it
 unfoldable pub psbtFrom : Globals → Psbt

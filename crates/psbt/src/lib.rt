@@ -1,11 +1,12 @@
 // Reading a file into two lent tables: `parse`.
 ghost use mathlib.Core.Path.{_≡_};
+ghost use mathlib.Core.Bool.{_&&_};
 ghost use mathlib.Core.List.{[]};
 ghost use Rattle.format.specs.Keys.{keyOf, same};
 ghost use Rattle.format.specs.Numbers.{signed};
 ghost use Rattle.format.specs.Content.{sizeValue, outputBy};
 ghost use Rattle.format.specs.Locks.{orZero};
-ghost use Rattle.psbt.specs.Walks.{noted, notedCount, notedThere, noteGlobal, noteOutput, note, globalsRule, psbtFrom, flags, seenRule, closeGlobal, closeOutput, close, finish, finishBy, anInput, anOutput, start, afterBy, after, there, countThere, countOf, atFirst};
+ghost use Rattle.psbt.specs.Walks.{noted, notedCount, notedThere, noteGlobal, noteOutput, note, globalsRule, allThere, versionRule, psbtFrom, flags, seenRule, closeGlobal, closeOutput, close, finish, finishBy, anInput, anOutput, start, afterBy, after, there, countThere, countOf, atFirst};
 use format::GLOBAL;
 use format::INPUT;
 use format::Maybe;
@@ -229,30 +230,45 @@ fn count_of(c: Count) -> u64
     }
 }
 
-// The rule of the global map: what has to be there, then the version.
-fn check_globals(g: Globals) -> Ruled
-    ensures { λ r. ⌜ r ≡ globalsRule g ⌝ }
+fn both(a: bool, b: bool) -> bool
+    ensures { λ r. ⌜ r ≡ (a && b) ⌝ }
+{
+    if a { b } else { false }
+}
+
+// All that has to be in the global map is there.
+fn has_counts(g: Globals) -> bool
+    ensures { λ r. ⌜ r ≡ allThere g ⌝ }
 {
     let tx_version = g.tx_version;
     let n_inputs = g.n_inputs;
     let n_outputs = g.n_outputs;
     let psbt_version = g.psbt_version;
-    if !is_there(tx_version) {
-        return Ruled::Refused(PsbtError::MissingCounts);
+    let last = both(is_counted(n_outputs), is_there(psbt_version));
+    let more = both(is_counted(n_inputs), last);
+    both(is_there(tx_version), more)
+}
+
+fn check_version(psbt_version: Maybe) -> Ruled
+    ensures { λ r. ⌜ r ≡ versionRule «psbt_version» ⌝ }
+{
+    if or_zero(psbt_version) == 2 {
+        Ruled::Passed
+    } else {
+        Ruled::Refused(PsbtError::NotAllowed)
     }
-    if !is_counted(n_inputs) {
-        return Ruled::Refused(PsbtError::MissingCounts);
+}
+
+// The rule of the global map: what has to be there, then the version.
+fn check_globals(g: Globals) -> Ruled
+    ensures { λ r. ⌜ r ≡ globalsRule g ⌝ }
+{
+    let psbt_version = g.psbt_version;
+    if has_counts(g) {
+        check_version(psbt_version)
+    } else {
+        Ruled::Refused(PsbtError::MissingCounts)
     }
-    if !is_counted(n_outputs) {
-        return Ruled::Refused(PsbtError::MissingCounts);
-    }
-    if !is_there(psbt_version) {
-        return Ruled::Refused(PsbtError::MissingCounts);
-    }
-    if or_zero(psbt_version) != 2 {
-        return Ruled::Refused(PsbtError::NotAllowed);
-    }
-    Ruled::Passed
 }
 
 // 32 bits read as a signed number.
@@ -295,21 +311,20 @@ fn is_modifiable(tx_modifiable: Maybe) -> bool
 fn validate_silent_payment_output(tx_modifiable: Maybe, seen: Seen) -> Ruled
     ensures { λ r. ⌜ r ≡ outputBy (flags «tx_modifiable») (seen .script) (seen .code) (seen .label) ⌝ }
 {
-    let modifiable = is_modifiable(tx_modifiable);
-    if !seen.script {
-        if !seen.code {
-            return Ruled::Refused(PsbtError::MissingOutputScript);
+    if seen.script {
+        if seen.code {
+            if is_modifiable(tx_modifiable) {
+                return Ruled::Refused(PsbtError::InvalidSilentPayment);
+            }
+            return Ruled::Passed;
         }
-        return Ruled::Passed;
-    }
-    if !seen.code {
         if seen.label {
             return Ruled::Refused(PsbtError::InvalidSilentPayment);
         }
         return Ruled::Passed;
     }
-    if modifiable {
-        return Ruled::Refused(PsbtError::InvalidSilentPayment);
+    if seen.code {
+        return Ruled::Passed;
     }
-    Ruled::Passed
+    Ruled::Refused(PsbtError::MissingOutputScript)
 }
