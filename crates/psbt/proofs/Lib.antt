@@ -2,3 +2,4 @@ pub mod Notes
 pub mod Leans
 pub mod Parts
 pub mod Signs
+pub mod Ends

@@ -6,6 +6,7 @@ ghost use Rattle.format.specs.Keys.{keyOf, same};
 ghost use Rattle.format.specs.Numbers.{signed};
 ghost use Rattle.format.specs.Content.{sizeValue, outputBy};
 ghost use Rattle.format.specs.Locks.{orZero};
+ghost use Rattle.format.specs.Rules.{andThen};
 ghost use Rattle.psbt.specs.Walks.{noted, notedCount, notedThere, noteGlobal, noteOutput, note, globalsRule, allThere, versionRule, psbtFrom, flags, seenRule, closeGlobal, closeOutput, close, finish, finishBy, anInput, anOutput, start, afterBy, after, there, countThere, countOf, atFirst};
 use format::GLOBAL;
 use format::INPUT;
@@ -327,4 +328,125 @@ fn validate_silent_payment_output(tx_modifiable: Maybe, seen: Seen) -> Ruled
         return Ruled::Passed;
     }
     Ruled::Refused(PsbtError::MissingOutputScript)
+}
+
+fn and_then(a: Ruled, b: Ruled) -> Ruled
+    ensures { λ r. ⌜ r ≡ andThen a b ⌝ }
+{
+    match a {
+        Ruled::Passed => b,
+        Ruled::Refused(e) => Ruled::Refused(e),
+    }
+}
+
+// Where the global map ended: its rule, and then how many inputs and outputs follow.
+fn close_global(w: Walk) -> Closed
+    ensures { λ r. ⌜ r ≡ closeGlobal w (globalsRule (w .globals)) ⌝ }
+{
+    let globals = w.globals;
+    let seen = w.seen;
+    let ruled = w.ruled;
+    let n_inputs = globals.n_inputs;
+    let n_outputs = globals.n_outputs;
+    match check_globals(globals) {
+        Ruled::Refused(e) => Closed::Bad(e),
+        Ruled::Passed => Closed::Good(Walk {
+            kind: w.kind,
+            globals,
+            inputs: count_of(n_inputs),
+            outputs: count_of(n_outputs),
+            seen,
+            ruled,
+        }),
+    }
+}
+
+// Where an output ended: the first breach of the output rules is kept.
+fn close_output(w: Walk) -> Walk
+    ensures { λ r. ⌜ r ≡ closeOutput w ⌝ }
+{
+    let globals = w.globals;
+    let seen = w.seen;
+    let ruled = w.ruled;
+    let tx_modifiable = globals.tx_modifiable;
+    Walk {
+        kind: w.kind,
+        globals,
+        inputs: w.inputs,
+        outputs: w.outputs,
+        seen,
+        ruled: and_then(ruled, validate_silent_payment_output(tx_modifiable, seen)),
+    }
+}
+
+// Where the map that is read ended.
+fn close_map(w: Walk) -> Closed
+    ensures { λ r. ⌜ r ≡ close w ⌝ }
+{
+    if w.kind == GLOBAL {
+        return close_global(w);
+    }
+    if w.kind == OUTPUT {
+        return Closed::Good(close_output(w));
+    }
+    Closed::Good(w)
+}
+
+// After all maps: nothing is left over, and then the output rules.
+fn finish(w: Walk, left: bool) -> Next
+    ensures { λ r. ⌜ r ≡ finish w left ⌝ }
+{
+    let globals = w.globals;
+    let ruled = w.ruled;
+    if left {
+        return Next::Stop(PsbtError::UnexpectedEof);
+    }
+    match ruled {
+        Ruled::Passed => Next::Done(psbt_of(globals)),
+        Ruled::Refused(e) => Next::Stop(e),
+    }
+}
+
+// The next map: an input, an output, or none.
+fn start_map(w: Walk, left: bool) -> Next
+    ensures { λ r. ⌜ r ≡ start w left ⌝ }
+{
+    let globals = w.globals;
+    let seen = w.seen;
+    let ruled = w.ruled;
+    if 0 < w.inputs {
+        return Next::Map(Walk {
+            kind: INPUT,
+            globals,
+            inputs: w.inputs - 1,
+            outputs: w.outputs,
+            seen,
+            ruled,
+        });
+    }
+    if 0 < w.outputs {
+        return Next::Map(Walk {
+            kind: OUTPUT,
+            globals,
+            inputs: w.inputs,
+            outputs: w.outputs - 1,
+            seen: Seen {
+                script: false,
+                code: false,
+                label: false,
+            },
+            ruled,
+        });
+    }
+    finish(w, left)
+}
+
+// What follows the map that is read.
+fn after_map(w: Walk, left: bool) -> Next
+    ensures { λ r. ⌜ r ≡ after w left ⌝ }
+{
+    match close_map(w) {
+        Closed::Bad(e) => Next::Stop(e),
+        Closed::Good(v) => start_map(v, left),
+    }
 }
