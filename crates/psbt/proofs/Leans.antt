@@ -27,34 +27,12 @@ use Rattle.laws.specs.Fine.{Rises, Keeps}
 use Rattle.laws.proofs.Items.{ItemIs, item-is}
 use Rattle.laws.proofs.Files.{pair-some}
 use Rattle.psbt.specs.Walks.{note, withGlobals, withSeen, atFirst, unseen, globalsRule, psbtFrom, seenRule, countOf, closeGlobal, closeOutput, close, finishBy, finish, anInput, anOutput, start, afterBy, after}
+use Rattle.psbt.specs.Leans.{Lean, done, refusal, begins, pair, ended, lean, cutLean, left, goOn, walkTurn, go, walk}
 use Rattle.psbt.specs.declared.Walk.{Walk}
 use Rattle.psbt.specs.declared.Next.{Next}
 use Rattle.psbt.specs.declared.Next.the-variants.{Stop, Done, Map as More}
 use Rattle.psbt.specs.declared.Closed.the-variants.{Bad, Good}
 use Rattle.psbt.proofs.Notes.{noteAll, foundGlobals, foundSeen, global-noted, output-noted, input-noted, psbt-from, global-rule, seen-rule, inputs-counted, outputs-counted}
-
--- what happens in a file, with what is reported in place of the content
-pub data Lean : Type 0 where
-  done : Psbt → Lean
-  refusal : PsbtError → Lean
-  begins : Lean → Lean
-  pair : Pair → Lean → Lean
-  ended : List ℕ → Lean → Lean
-
-unfoldable pub lean : Reading → Lean
-lean (R.done c) = done (psbtOf (c .global .pairs))
-lean (R.refusal e) = refusal e
-lean (R.begins r) = begins (lean r)
-lean (R.pair p r) = pair p (lean r)
-lean (R.ended a r) = ended a (lean r)
-
-unfoldable pub cutLean : ℕ → ℕ → ℕ → ℕ → List ℕ → List ℕ → Lean → ParseOut
-cutLean at p m i P M (done s) = out (A.Accepted s p m) P M
-cutLean at p m i P M (refusal e) = out (A.Refused e p m) P M
-cutLean at p m i P M (begins r) = pick (hasRoom mapWords m M) (cutLean at p m i P M r) (out (A.Refused MapsFull p m) P M)
-cutLean at p m i P M (pair q r) =
-    pick (hasRoom pairWords p P) (cutLean (at + width q) (p + 1) m i (putPair P p (entryOf at q)) M r) (out (A.Refused PairsFull p m) P M)
-cutLean at p m i P M (ended a r) = cutLean (at + length a) p (m + 1) p P (putMap M m (record { first = i; count = p - i })) r
 
 pub cut-lean : (at p m i : ℕ) (P M : List ℕ) (r : Reading) → cut at p m i P M r ≡ cutLean at p m i P M (lean r)
 unfolding cut cutLean lean
@@ -64,32 +42,6 @@ cut-lean at p m i P M (R.begins r) = ap (λ (o : ParseOut). pick (hasRoom mapWor
 cut-lean at p m i P M (R.pair q r) =
     ap (λ (o : ParseOut). pick (hasRoom pairWords p P) o (out (A.Refused PairsFull p m) P M)) (cut-lean (at + width q) (p + 1) m i (putPair P p (entryOf at q)) M r)
 cut-lean at p m i P M (R.ended a r) = cut-lean (at + length a) p (m + 1) p P (putMap M m (record { first = i; count = p - i })) r
-
--- bytes are left
-unfoldable pub left : List ℕ → Bool
-left [] = false
-left (x ∷ r) = true
-
--- what follows a map, with k for the map after it
-unfoldable pub goOn : (Walk → List ℕ → List ℕ → Lean) → List ℕ → Next → Lean
-goOn k r (Stop e) = refusal e
-goOn k r (Done s) = done s
-goOn k r (More w) = begins (k w [] r)
-
--- an item, with k for what follows it
-unfoldable pub walkTurn : (Walk → List ℕ → List ℕ → Lean) → Walk → Item → Lean
-walkTurn k w (stop e) = refusal e
-walkTurn k w (over a r) = ended a (goOn k r (after w (left r)))
-walkTurn k w (one p r) = pair p (k (note (p .key) (p .value) w) (p .key) r)
-
-unfoldable go : ℕ → Walk → List ℕ → List ℕ → Lean
-go zero w last s = refusal UnexpectedEof
-go (suc n) w last s = walkTurn (go n) w (item (w .kind) last s)
-
--- the rest s of a file, in the middle of a map whose last key is `last`
-unfoldable pub walk : Walk → List ℕ → List ℕ → Lean
-unfolding go
-walk w last s = go (suc (length s)) w last s
 
 -- an item takes a byte, so more turns than bytes are enough
 abbrev Alike : List ℕ → (Walk → List ℕ → List ℕ → Lean) → (Walk → List ℕ → List ℕ → Lean) → Type 0

@@ -3,3 +3,4 @@ pub mod Leans
 pub mod Parts
 pub mod Signs
 pub mod Ends
+pub mod Steps

@@ -7,6 +7,8 @@ ghost use Rattle.format.specs.Numbers.{signed};
 ghost use Rattle.format.specs.Content.{sizeValue, outputBy};
 ghost use Rattle.format.specs.Locks.{orZero};
 ghost use Rattle.format.specs.Rules.{andThen};
+ghost use lib.ListN.{length};
+ghost use Rattle.psbt.specs.Steps.{Places, stepAt};
 ghost use Rattle.psbt.specs.Walks.{noted, notedCount, notedThere, noteGlobal, noteOutput, note, globalsRule, allThere, versionRule, psbtFrom, flags, seenRule, closeGlobal, closeOutput, close, finish, finishBy, anInput, anOutput, start, afterBy, after, there, countThere, countOf, atFirst};
 use format::GLOBAL;
 use format::INPUT;
@@ -21,10 +23,13 @@ use format::PSBT_GLOBAL_VERSION;
 use format::PSBT_OUT_SCRIPT;
 use format::PSBT_OUT_SP_V0_INFO;
 use format::PSBT_OUT_SP_V0_LABEL;
+use format::PairEntry;
 use format::Psbt;
 use format::PsbtError;
 use format::Ruled;
 use format::Size;
+use parsed_map::Item;
+use parsed_map::next_item;
 use wire::u32_from_le_bytes;
 use wire::u64_from_compact_size;
 
@@ -448,5 +453,42 @@ fn after_map(w: Walk, left: bool) -> Next
     match close_map(w) {
         Closed::Bad(e) => Next::Stop(e),
         Closed::Good(v) => start_map(v, left),
+    }
+}
+
+// What stands at a place of the file: a refusal, the map's end with the place behind it, or a pair's entry with what is
+// carried on.
+pub enum Step {
+    Stop(PsbtError),
+    Over(usize),
+    One { entry: PairEntry, walk: Walk },
+}
+
+// One pair or the end of the map that is read, at the front of the file's remaining part, which begins at `at`.
+fn step_at(rest: &[u8], last: &[u8], at: usize, w: Walk) -> Step
+    requires { ⌜ Places (length (now rest)) at ⌝ }
+    ensures { λ r. ⌜ r ≡ stepAt (now (rest .entry)) (now (last .entry)) at w ⌝ }
+{
+    match next_item(rest, last, w.kind) {
+        Item::Stop(e) => Step::Stop(e),
+        Item::Over(used) => Step::Over(at + used),
+        Item::One {
+            key,
+            klen,
+            value,
+            vlen,
+        } => {
+            let key_end = key + klen;
+            let value_end = value + vlen;
+            Step::One {
+                entry: PairEntry {
+                    key: at + key,
+                    klen,
+                    value: at + value,
+                    vlen,
+                },
+                walk: note_pair(w, &rest[key..key_end], &rest[value..value_end]),
+            }
+        }
     }
 }
