@@ -4,3 +4,4 @@ pub mod Parts
 pub mod Signs
 pub mod Ends
 pub mod Steps
+pub mod Loops

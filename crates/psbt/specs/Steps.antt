@@ -15,6 +15,11 @@ use Rattle.psbt.specs.declared.Step.the-variants.{Stop, Over, One}
 pub record Places (n at : ℕ) : Type 0 where
   pub within : at + n ≤ limit
 
+-- a file that begins with the magic and is not too long
+pub record InLimit (n : ℕ) : Type 0 where
+  pub magic : 5 ≤ n
+  pub short : n ≤ limit
+
 -- by the item at the front of s, which begins at `at`
 unfoldable pub stepBy : List ℕ → ℕ → Walk → Item → Step
 stepBy s at w (I.Stop e) = Stop e

@@ -8,10 +8,17 @@ ghost use Rattle.format.specs.Content.{sizeValue, outputBy};
 ghost use Rattle.format.specs.Locks.{orZero};
 ghost use Rattle.format.specs.Rules.{andThen};
 ghost use lib.ListN.{length};
-ghost use Rattle.psbt.specs.Steps.{Places, stepAt};
+ghost use Rattle.format.specs.Parse.{out};
+ghost use Rattle.psbt.specs.Leans.{mapsRead};
+ghost use Rattle.psbt.specs.Steps.{Places, InLimit, stepAt};
 ghost use Rattle.psbt.specs.Walks.{noted, notedCount, notedThere, noteGlobal, noteOutput, note, globalsRule, allThere, versionRule, psbtFrom, flags, seenRule, closeGlobal, closeOutput, close, finish, finishBy, anInput, anOutput, start, afterBy, after, there, countThere, countOf, atFirst};
+use entries::has_map_room;
+use entries::has_pair_room;
+use entries::write_map;
+use entries::write_pair;
 use format::GLOBAL;
 use format::INPUT;
+use format::MapEntry;
 use format::Maybe;
 use format::OUTPUT;
 use format::PSBT_GLOBAL_FALLBACK_LOCKTIME;
@@ -24,6 +31,7 @@ use format::PSBT_OUT_SCRIPT;
 use format::PSBT_OUT_SP_V0_INFO;
 use format::PSBT_OUT_SP_V0_LABEL;
 use format::PairEntry;
+use format::Parsed;
 use format::Psbt;
 use format::PsbtError;
 use format::Ruled;
@@ -491,4 +499,123 @@ fn step_at(rest: &[u8], last: &[u8], at: usize, w: Walk) -> Step
             }
         }
     }
+}
+
+// What is known before the first map.
+fn first_map() -> Walk
+    ensures { λ r. ⌜ r ≡ atFirst ⌝ }
+{
+    Walk {
+        kind: GLOBAL,
+        globals: Globals {
+            tx_version: Maybe::Absent,
+            fallback_locktime: Maybe::Absent,
+            n_inputs: Count::Absent,
+            n_outputs: Count::Absent,
+            tx_modifiable: Maybe::Absent,
+            psbt_version: Maybe::Absent,
+        },
+        inputs: 0,
+        outputs: 0,
+        seen: Seen {
+            script: false,
+            code: false,
+            label: false,
+        },
+        ruled: Ruled::Passed,
+    }
+}
+
+// The maps of a file, read into two tables: four words for each pair, two for each map.
+fn read_maps(file: &[u8], pairs: &mut [u32], maps: &mut [u32]) -> Parsed
+    requires { ⌜ InLimit (length (now file)) ⌝ }
+    ensures { λ r. ⌜ out r (now (pairs .exit)) (now (maps .exit)) ≡ mapsRead (now (file .entry)) (now (pairs .entry)) (now (maps .entry)) ⌝ }
+{
+    let mut answer = Parsed::Refused {
+        error: PsbtError::MapsFull,
+        pairs: 0,
+        maps: 0,
+    };
+    let mut w = first_map();
+    let mut at: usize = 5;
+    let mut p: usize = 0;
+    let mut m: usize = 0;
+    'maps: loop {
+        if !has_map_room(maps, m) {
+            answer = Parsed::Refused {
+                error: PsbtError::MapsFull,
+                pairs: p,
+                maps: m,
+            };
+            break 'maps;
+        }
+        let first = p;
+        let mut la: usize = at;
+        let mut le: usize = at;
+        loop {
+            let x = step_at(&file[at..], &file[la..le], at, w);
+            match x {
+                Step::Stop(e) => {
+                    answer = Parsed::Refused {
+                        error: e,
+                        pairs: p,
+                        maps: m,
+                    };
+                    break 'maps;
+                }
+                Step::Over(to) => {
+                    at = to;
+                    break;
+                }
+                Step::One { entry, walk } => {
+                    if !has_pair_room(pairs, p) {
+                        answer = Parsed::Refused {
+                            error: PsbtError::PairsFull,
+                            pairs: p,
+                            maps: m,
+                        };
+                        break 'maps;
+                    }
+                    write_pair(pairs, p, entry);
+                    la = entry.key;
+                    le = entry.key + entry.klen;
+                    at = entry.value + entry.vlen;
+                    p = p + 1;
+                    w = walk;
+                }
+            }
+        }
+        write_map(
+            maps,
+            m,
+            MapEntry {
+                first,
+                count: p - first,
+            },
+        );
+        m = m + 1;
+        let t = after_map(w, at < file.len());
+        match t {
+            Next::Stop(e) => {
+                answer = Parsed::Refused {
+                    error: e,
+                    pairs: p,
+                    maps: m,
+                };
+                break 'maps;
+            }
+            Next::Done(psbt) => {
+                answer = Parsed::Accepted {
+                    psbt,
+                    pairs: p,
+                    maps: m,
+                };
+                break 'maps;
+            }
+            Next::Map(v) => {
+                w = v;
+            }
+        }
+    }
+    answer
 }
