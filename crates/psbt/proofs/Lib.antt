@@ -5,3 +5,4 @@ pub mod Signs
 pub mod Ends
 pub mod Steps
 pub mod Loops
+pub mod Parses

@@ -4,11 +4,12 @@ ghost use mathlib.Core.Bool.{_&&_};
 ghost use mathlib.Core.List.{[]};
 ghost use Rattle.format.specs.Keys.{keyOf, same};
 ghost use Rattle.format.specs.Numbers.{signed};
-ghost use Rattle.format.specs.Content.{sizeValue, outputBy};
+ghost use Rattle.format.specs.Content.{magic, sizeValue, outputBy};
 ghost use Rattle.format.specs.Locks.{orZero};
 ghost use Rattle.format.specs.Rules.{andThen};
-ghost use lib.ListN.{length};
-ghost use Rattle.format.specs.Parse.{out};
+ghost use lib.ListN.{length, take};
+ghost use Rattle.format.specs.Parse.{out, parsed};
+ghost use Rattle.format.specs.Told.{toldWith, toldParsed, toldParse};
 ghost use Rattle.psbt.specs.Leans.{mapsRead};
 ghost use Rattle.psbt.specs.Steps.{Places, InLimit, stepAt};
 ghost use Rattle.psbt.specs.Walks.{noted, notedCount, notedThere, noteGlobal, noteOutput, note, globalsRule, allThere, versionRule, psbtFrom, flags, seenRule, closeGlobal, closeOutput, close, finish, finishBy, anInput, anOutput, start, afterBy, after, there, countThere, countOf, atFirst};
@@ -18,9 +19,11 @@ use entries::write_map;
 use entries::write_pair;
 use format::GLOBAL;
 use format::INPUT;
+use format::LIMIT;
 use format::MapEntry;
 use format::Maybe;
 use format::OUTPUT;
+use format::Order;
 use format::PSBT_GLOBAL_FALLBACK_LOCKTIME;
 use format::PSBT_GLOBAL_INPUT_COUNT;
 use format::PSBT_GLOBAL_OUTPUT_COUNT;
@@ -36,6 +39,7 @@ use format::Psbt;
 use format::PsbtError;
 use format::Ruled;
 use format::Size;
+use keys::compare;
 use parsed_map::Item;
 use parsed_map::next_item;
 use wire::u32_from_le_bytes;
@@ -618,4 +622,40 @@ fn read_maps(file: &[u8], pairs: &mut [u32], maps: &mut [u32]) -> Parsed
         }
     }
     answer
+}
+
+// The five bytes that every file begins with.
+fn has_magic(file: &[u8]) -> bool
+    ensures { λ r. ⌜ r ≡ same (take 5 (now (file .entry))) magic ⌝ }
+{
+    if file.len() < 5 {
+        return false;
+    }
+    match compare(&file[..5], b"psbt\xff") {
+        Order::Below => false,
+        Order::Same => true,
+        Order::Above => false,
+    }
+}
+
+// Parses a file into a pair table and a map table. Each entry is told by the definitions; both tables keep everything
+// that is not an entry of a pair accepted or of a map ended.
+pub fn parse(file: &[u8], pairs: &mut [u32], maps: &mut [u32]) -> Parsed
+    ensures { λ r. ⌜ toldWith (toldParsed r) (now (pairs .exit)) (now (maps .exit)) ≡ toldParse (parsed (now (file .entry)) (now (pairs .entry)) (now (maps .entry))) ⌝ }
+{
+    if LIMIT < file.len() {
+        return Parsed::Refused {
+            error: PsbtError::TooLong,
+            pairs: 0,
+            maps: 0,
+        };
+    }
+    if !has_magic(file) {
+        return Parsed::Refused {
+            error: PsbtError::InvalidMagic,
+            pairs: 0,
+            maps: 0,
+        };
+    }
+    read_maps(file, pairs, maps)
 }
