@@ -1,0 +1,188 @@
+-- Laws of finding a key in the pairs of a map, and of what is asked of the value found.
+use mathlib.Core.Path.{_≡_, refl, sym, _∙_, ap}
+use mathlib.Core.Bool.{Bool, true, false}
+use mathlib.Core.List.{List, [], _∷_}
+use Prim.Native.Nat.{ℕ, zero, suc, _+_, _-_, _%_, _≤_, _<_}
+use native.Mathlib.Omega.{arith}
+use borrow.Author.Tests.{ltb-false, le-ltb, eq-eqb, ne-eqb}
+use lib.Dec.{eqb, ltb}
+use lib.ListN.{length, take, drop, getD, length-take}
+use lib.Seq.{take-all}
+use Rattle.format.specs.Tests.{pick}
+use Rattle.format.specs.Numbers.{le}
+use Rattle.format.specs.Keys.{keyOf, order, isSame, same}
+use Rattle.format.specs.Entries.{keyIn}
+use Rattle.format.specs.Tables.{Held}
+use Rattle.format.specs.Lookups.{Length, anyLength, place, lengthFits, ofLength, asked, look, part, numberAt}
+use Rattle.format.specs.declared.PsbtError.{PsbtError}
+use Rattle.format.specs.declared.PsbtError.the-variants.{BadValue}
+use Rattle.format.specs.declared.Order.{Order}
+use Rattle.format.specs.declared.PairEntry.{PairEntry}
+use Rattle.format.specs.declared.MapEntry.{MapEntry}
+use Rattle.format.specs.declared.Looked.{Looked}
+use Rattle.format.specs.declared.Looked.the-variants.{Refused, Absent, At}
+use Rattle.format.specs.declared.Numbered.the-variants as N
+use Rattle.format.proofs.Tests.{pick-by}
+use Rattle.wire.specs.Leads.{lead}
+use Rattle.wire.proofs.Sizes.{part-rest}
+use Rattle.entries.specs.Words.{pairCount, pairAt}
+use Rattle.lookup.specs.Fits.{run, entriesOf, heldOf}
+use Rattle.lookup.specs.Walks.{bytesAt, lengthOf, Short}
+use Rattle.lookup.specs.declared.Fit.{Fit}
+use Rattle.lookup.specs.declared.Fit.the-variants as F
+use Rattle.lookup.specs.declared.Wanted.{Wanted}
+use Rattle.lookup.specs.declared.Wanted.the-variants as W
+use Rattle.lookup.proofs.Walks.{run-none, run-one}
+
+-- a key, by its type and its data
+other-type : (t x : ℕ) (d k : List ℕ) → (x ≡ t → ⊥) → same (keyOf t d) (x ∷ k) ≡ false
+unfolding same keyOf order isSame
+other-type t x d k h =
+    pick-by (λ (o : Order). isSame o ≡ false) (ltb t x) _ _ (λ q. refl)
+    (λ q. pick-by (λ (o : Order). isSame o ≡ false) (ltb x t) _ _ (λ w. refl) (λ w. absurd (h (omega (arith, ltb-false t x q, ltb-false x t w)))))
+
+own-type : (t x : ℕ) (d k : List ℕ) → x ≡ t → same (keyOf t d) (x ∷ k) ≡ same d k
+unfolding same keyOf order
+own-type t x d k h = rw (le-ltb t x (omega arith), le-ltb x t (omega arith))
+
+module _ (t : ℕ) (d : List ℕ) where
+  pub key-none : (k g : List ℕ) → k ≡ g → length k ≡ 0 → false ≡ same (keyOf t d) g
+  unfolding same keyOf order isSame
+  key-none [] g is h = ap (same (keyOf t d)) is
+  key-none (x ∷ k) g is h = absurd (omega arith)
+
+  pub key-typed : (k g : List ℕ) → k ≡ g → (length k ≡ 0 → ⊥) → (getD k 0 0 ≡ t → ⊥) → false ≡ same (keyOf t d) g
+  key-typed [] g is some h = absurd (some refl)
+  key-typed (x ∷ k) g is some h = sym (other-type t x d k h) ∙ ap (same (keyOf t d)) is
+
+  pub key-same : (k g : List ℕ) → k ≡ g → (length k ≡ 0 → ⊥) → getD k 0 0 ≡ t → (r : Bool) (o : Order) → r ≡ isSame o → o ≡ order d (take (length k - 1) (drop 1 k))
+      → r ≡ same (keyOf t d) g
+  unfolding same
+  key-same [] g is some h r o er eo = absurd (some refl)
+  key-same (x ∷ k) g is some h r o er eo =
+      er ∙ ap isSame (eo ∙ ap (order d) (part-rest 1 (x ∷ k))) ∙ sym (own-type t x d k h) ∙ ap (same (keyOf t d)) is
+
+pub ruleset keys = (key-none, key-typed, key-same)
+
+-- where a key's value stands from here on is where it stands
+pub record Finding (f key P : List ℕ) (first end i : ℕ) : Type 0 where
+  pub is : place f key (run P i end) ≡ place f key (run P first end)
+
+pub find-first : (f key P : List ℕ) (first end : ℕ) → Finding f key P first end first
+find-first f key P first end = record { is = refl }
+
+module _ (f key P : List ℕ) (first end i : ℕ) (k : Finding f key P first end i) where
+  pub find-none : end ≤ i → Absent ≡ place f key (run P first end)
+  unfolding place
+  find-none h = sym (ap (place f key) (run-none P i end h)) ∙ k .is
+
+  module _ (h : i < end) (l : end ≤ pairCount P) (e : PairEntry) (is : e ≡ pairAt P i) (r : Bool) (one : r ≡ same key (keyIn f e)) where
+    step : place f key (run P first end) ≡ pick r (At (e .value) (e .vlen)) (place f key (run P (i + 1) end))
+    unfolding place
+    step = sym (k .is) ∙ ap (place f key) (run-one P i end h l) ∙ rw (← is, ← one)
+
+    pub find-found : r ≡ true → At (e .value) (e .vlen) ≡ place f key (run P first end)
+    find-found q = sym (step ∙ rw q)
+
+    pub find-more : r ≡ false → Finding f key P first end (i + 1)
+    find-more q = record { is = sym (step ∙ rw q) }
+
+pub ruleset findings = (find-first, find-none, find-found, find-more)
+
+-- a length, by which lengths are right
+module _ (w : Wanted) (n : ℕ) where
+  pub any-length : w ≡ W.AnyLength → true ≡ lengthFits (lengthOf w) n
+  unfolding lengthOf lengthFits
+  any-length e = rw e
+
+  pub one-length : (k : ℕ) → w ≡ W.Exactly k → eqb n k ≡ lengthFits (lengthOf w) n
+  unfolding lengthOf lengthFits
+  one-length k e = rw e
+
+  module _ (e : w ≡ W.KeyList) where
+    pub empty-list : n ≡ 0 → false ≡ lengthFits (lengthOf w) n
+    unfolding lengthOf lengthFits
+    empty-list h = rw (e, eq-eqb n 0 h)
+
+    pub key-list : (n ≡ 0 → ⊥) → eqb (n % 33) 0 ≡ lengthFits (lengthOf w) n
+    unfolding lengthOf lengthFits
+    key-list h = rw (e, ne-eqb n 0 h)
+
+pub ruleset lengths = (any-length, one-length, empty-list, key-list)
+
+-- a value, by what was found
+module _ (l : Length) (o : Looked) where
+  pub of-refused : (e : PsbtError) → o ≡ Refused e → Refused e ≡ ofLength l o
+  unfolding ofLength
+  of-refused e q = rw q
+
+  pub of-absent : o ≡ Absent → Absent ≡ ofLength l o
+  unfolding ofLength
+  of-absent q = rw q
+
+  module _ (s n : ℕ) (q : o ≡ At s n) (b : Bool) (is : b ≡ lengthFits l n) where
+    pub of-right : b ≡ true → At s n ≡ ofLength l o
+    unfolding ofLength
+    of-right h = rw (q, sym is ∙ h)
+
+    pub of-wrong : b ≡ false → Refused BadValue ≡ ofLength l o
+    unfolding ofLength
+    of-wrong h = rw (q, sym is ∙ h)
+
+pub ruleset values = (of-refused, of-absent, of-right, of-wrong)
+
+-- a typed lookup, by what the map is
+module _ (ok : Bool) (l : Length) (f key P : List ℕ) (fit : Fit) where
+  pub asked-refused : (e : PsbtError) → fit ≡ F.Refused e → Refused e ≡ asked ok l f key (heldOf P fit)
+  unfolding asked heldOf
+  asked-refused e q = rw q
+
+  module _ (m : MapEntry) (q : fit ≡ F.Is m) where
+    pub asked-bad : ok ≡ false → Refused BadValue ≡ asked ok l f key (heldOf P fit)
+    unfolding asked heldOf
+    asked-bad h = rw (q, h)
+
+    pub asked-place : ok ≡ true → (r x : Looked) → r ≡ ofLength l x → x ≡ place f key (entriesOf P m) → r ≡ asked ok l f key (heldOf P fit)
+    unfolding asked heldOf
+    asked-place h r x er ex = er ∙ ap (ofLength l) ex ∙ sym (rw (q, h))
+
+pub ruleset askings = (asked-refused, asked-bad, asked-place)
+
+pub get-is : (f d P : List ℕ) (t : ℕ) (fit : Fit) (h : Held) (r : Looked) → r ≡ asked true (lengthOf W.AnyLength) f (keyOf t d) (heldOf P fit) → heldOf P fit ≡ h → r ≡ look f t d h
+unfolding look lengthOf
+get-is f d P t fit h r e q = e ∙ ap (asked true anyLength f (keyOf t d)) q
+
+-- the part that is handed back, and its number
+module _ (f : List ℕ) (o : Looked) where
+  pub part-refused : (e : PsbtError) → o ≡ Refused e → [] ≡ part f o
+  unfolding part
+  part-refused e q = rw q
+
+  pub part-absent : o ≡ Absent → [] ≡ part f o
+  unfolding part
+  part-absent q = rw q
+
+  pub number-refused : (e : PsbtError) → o ≡ Refused e → N.Refused e ≡ numberAt f o
+  unfolding numberAt
+  number-refused e q = rw q
+
+  pub number-absent : o ≡ Absent → N.Absent ≡ numberAt f o
+  unfolding numberAt
+  number-absent q = rw q
+
+  module _ (s n : ℕ) (q : o ≡ At s n) (v : List ℕ) (is : v ≡ bytesAt f s n) where
+    pub part-found : v ≡ part f o
+    unfolding part bytesAt
+    part-found = is ∙ sym (rw q)
+
+    pub number-found : Short o → (x : ℕ) → x ≡ lead 8 v → N.Is x ≡ numberAt f o
+    unfolding numberAt bytesAt lead
+    number-found h x e =
+        let k : n ≤ 8 = h .few s n q in
+        let g : take 8 v ≡ take n (drop s f) = ap (take 8) is ∙ take-all 8 (take n (drop s f)) (rw length-take (omega arith)) in
+        ap N.Is (e ∙ ap le g) ∙ sym (rw q)
+
+pub part-is : (f v : List ℕ) (x y : Looked) → v ≡ part f x → x ≡ y → v ≡ part f y
+part-is f v x y e q = e ∙ ap (part f) q
+
+pub ruleset answers = (part-refused, part-absent, part-found, number-refused, number-absent, number-found)
