@@ -2,7 +2,7 @@
 use mathlib.Core.Path.{_≡_, refl, sym, _∙_, ap}
 use mathlib.Core.Bool.{Bool, true, false}
 use mathlib.Core.List.{List, [], _∷_}
-use Prim.Native.Nat.{ℕ, zero, suc, _+_, _-_, _%_, _≤_, _<_}
+use Prim.Native.Nat.{ℕ, _+_, _-_, _%_, _≤_, _<_}
 use native.Mathlib.Omega.{arith}
 use borrow.Author.Tests.{ltb-false, le-ltb, eq-eqb, ne-eqb}
 use lib.Dec.{eqb, ltb}
@@ -32,7 +32,7 @@ use Rattle.lookup.specs.declared.Fit.{Fit}
 use Rattle.lookup.specs.declared.Fit.the-variants as F
 use Rattle.lookup.specs.declared.Wanted.{Wanted}
 use Rattle.lookup.specs.declared.Wanted.the-variants as W
-use Rattle.lookup.proofs.Walks.{run-none, run-one}
+use Rattle.lookup.proofs.Walks.{run-none, run-one, next-fits}
 
 -- a key, by its type and its data
 other-type : (t x : ℕ) (d k : List ℕ) → (x ≡ t → ⊥) → same (keyOf t d) (x ∷ k) ≡ false
@@ -64,30 +64,31 @@ module _ (t : ℕ) (d : List ℕ) where
 
 pub ruleset keys = (key-none, key-typed, key-same)
 
--- where a key's value stands from here on is where it stands
-pub record Finding (f key P : List ℕ) (first end i : ℕ) : Type 0 where
-  pub is : place f key (run P i end) ≡ place f key (run P first end)
+-- where a key's value stands among the n pairs from number i on is where it stands
+pub record Finding (f key P : List ℕ) (first count i n : ℕ) : Type 0 where
+  pub in-table : i + n ≤ pairCount P
+  pub is : place f key (run P i n) ≡ place f key (run P first count)
 
-pub find-first : (f key P : List ℕ) (first end : ℕ) → Finding f key P first end first
-find-first f key P first end = record { is = refl }
+pub find-first : (f key P : List ℕ) (first count : ℕ) → first + count ≤ pairCount P → Finding f key P first count first count
+find-first f key P first count h = record { in-table = h; is = refl }
 
-module _ (f key P : List ℕ) (first end i : ℕ) (k : Finding f key P first end i) where
-  pub find-none : end ≤ i → Absent ≡ place f key (run P first end)
+module _ (f key P : List ℕ) (first count i n : ℕ) (k : Finding f key P first count i n) where
+  pub find-none : n ≤ 0 → Absent ≡ place f key (run P first count)
   unfolding place
-  find-none h = sym (ap (place f key) (run-none P i end h)) ∙ k .is
+  find-none h = sym (ap (place f key) (run-none P i n h)) ∙ k .is
 
-  module _ (h : i < end) (l : end ≤ pairCount P) (e : PairEntry) (is : e ≡ pairAt P i) (r : Bool) (one : r ≡ same key (keyIn f e)) where
-    step : place f key (run P first end) ≡ pick r (At (e .value) (e .vlen)) (place f key (run P (i + 1) end))
+  module _ (h : 0 < n) (e : PairEntry) (is : e ≡ pairAt P i) (r : Bool) (one : r ≡ same key (keyIn f e)) where
+    step : place f key (run P first count) ≡ pick r (At (e .value) (e .vlen)) (place f key (run P (i + 1) (n - 1)))
     unfolding place
-    step = sym (k .is) ∙ ap (place f key) (run-one P i end h l) ∙ rw (← is, ← one)
+    step = sym (k .is) ∙ ap (place f key) (run-one P i n h (k .in-table)) ∙ rw (← is, ← one)
 
-    pub find-found : r ≡ true → At (e .value) (e .vlen) ≡ place f key (run P first end)
+    pub find-found : r ≡ true → At (e .value) (e .vlen) ≡ place f key (run P first count)
     find-found q = sym (step ∙ rw q)
 
-    pub find-more : r ≡ false → Finding f key P first end (i + 1)
-    find-more q = record { is = sym (step ∙ rw q) }
+    pub find-more : r ≡ false → Finding f key P first count (i + 1) (n - 1)
+    find-more q = record { in-table = omega (arith, k .in-table); is = sym (step ∙ rw q) }
 
-pub ruleset findings = (find-first, find-none, find-found, find-more)
+pub ruleset findings = (next-fits, find-first, find-none, find-found, find-more)
 
 -- a length, by which lengths are right
 module _ (w : Wanted) (n : ℕ) where

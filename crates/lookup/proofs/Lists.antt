@@ -3,10 +3,9 @@ use mathlib.Core.Path.{_≡_, refl, sym, _∙_, ap, ap₂}
 use mathlib.Core.Bool.{Bool, true, false}
 use mathlib.Core.List.{List, [], _∷_, map}
 use Prim.Native.Nat.{ℕ, zero, suc, _+_, _-_, _^_, _≤_, _<_}
-use native.Mathlib.Nat.{add-sub-cancel-left}
 use native.Mathlib.Omega.{arith}
 use lib.Dec.{eqb}
-use lib.ListN.{length, take, drop, getD, length-take, length-drop}
+use lib.ListN.{length, drop, getD, length-take, length-drop}
 use lib.Seq.{getD-take, getD-drop}
 use mir.Syntax.{w64}
 use mir.Val.{Fits}
@@ -31,7 +30,7 @@ use Rattle.lookup.specs.Fits.{run, entriesOf, heldOf, Within}
 use Rattle.lookup.specs.Walks.{oneIf, counted, isBefore, isListed}
 use Rattle.lookup.specs.declared.Fit.{Fit}
 use Rattle.lookup.specs.declared.Fit.the-variants as F
-use Rattle.lookup.proofs.Walks.{run-none, run-one}
+use Rattle.lookup.proofs.Walks.{run-none, run-one, next-fits}
 
 -- the tests on one key
 pub before-is : (f : List ℕ) (t : ℕ) (e : PairEntry) (r : Bool) (o : Order) (k : List ℕ) → r ≡ isBelow o → o ≡ order k (t ∷ []) → k ≡ keyIn f e → r ≡ isBefore f t e
@@ -67,29 +66,30 @@ unfolding oneIf
 one-most true = omega arith
 one-most false = omega arith
 
--- what was counted and what is counted from here on are all
-pub record Counting (t : PairEntry → Bool) (P : List ℕ) (first end i n : ℕ) : Type 0 where
-  pub few : n ≤ i
-  pub is : n + counted t (run P i end) ≡ counted t (run P first end)
+-- what was counted and what is counted among the n pairs from number i on are all
+pub record Counting (t : PairEntry → Bool) (P : List ℕ) (first count i n so-far : ℕ) : Type 0 where
+  pub in-table : i + n ≤ pairCount P
+  pub few : so-far ≤ i
+  pub is : so-far + counted t (run P i n) ≡ counted t (run P first count)
 
-pub count-first : (t : PairEntry → Bool) (P : List ℕ) (first end : ℕ) → Counting t P first end first 0
-count-first t P first end = record { few = omega arith; is = omega arith }
+pub count-first : (t : PairEntry → Bool) (P : List ℕ) (first count : ℕ) → first + count ≤ pairCount P → Counting t P first count first count 0
+count-first t P first count h = record { in-table = h; few = omega arith; is = omega arith }
 
-module _ (t : PairEntry → Bool) (P : List ℕ) (first end i n : ℕ) (k : Counting t P first end i n) where
-  count-done : end ≤ i → n ≡ counted t (run P first end)
+module _ (t : PairEntry → Bool) (P : List ℕ) (first count i n so-far : ℕ) (k : Counting t P first count i n so-far) where
+  count-done : n ≤ 0 → so-far ≡ counted t (run P first count)
   unfolding counted
-  count-done h = omega (arith, k .is, ap (counted t) (run-none P i end h))
+  count-done h = omega (arith, k .is, ap (counted t) (run-none P i n h))
 
-  module _ (h : i < end) (l : end ≤ pairCount P) (x : ℕ) (b : Bool) (ex : x ≡ oneIf b) where
-    pub count-fits : length P < 2 ^ 64 → Fits w64 (n + x)
-    count-fits g = record { fits = omega (arith, k .few, one-most b, pair-count P) }
+  module _ (h : 0 < n) (x : ℕ) (b : Bool) (ex : x ≡ oneIf b) where
+    pub count-fits : length P < 2 ^ 64 → Fits w64 (so-far + x)
+    count-fits g = record { fits = omega (arith, k .in-table, k .few, one-most b, pair-count P) }
 
-    pub count-more : (e : PairEntry) → b ≡ t e → e ≡ pairAt P i → Counting t P first end (i + 1) (n + x)
+    pub count-more : (e : PairEntry) → b ≡ t e → e ≡ pairAt P i → Counting t P first count (i + 1) (n - 1) (so-far + x)
     unfolding counted
     count-more e eb is =
-        let y : counted t (run P i end) ≡ oneIf (t e) + counted t (run P (i + 1) end) = ap (counted t) (run-one P i end h l) ∙ rw (← is) in
+        let y : counted t (run P i n) ≡ oneIf (t e) + counted t (run P (i + 1) (n - 1)) = ap (counted t) (run-one P i n h (k .in-table)) ∙ rw (← is) in
         let z : oneIf b ≡ oneIf (t e) = ap oneIf eb in
-        record { few = omega (arith, k .few, one-most b); is = omega (arith, k .is) }
+        record { in-table = omega (arith, k .in-table); few = omega (arith, k .few, one-most b); is = omega (arith, k .is) }
 
 -- and are what the definition counts, of the pairs that the entries show
 keep-one : (b : Bool) (p : Pair) (ps : List Pair) (n : ℕ) → n ≡ length ps → oneIf b + n ≡ length (keepIf b p ps)
@@ -102,15 +102,15 @@ unfolding counted only
 only-shown t f [] = refl
 only-shown t f (e ∷ es) = keep-one (t (shown f e)) (shown f e) (only t (map (shown f) es)) _ (only-shown t f es)
 
-pub list-done : (f P : List ℕ) (t first end i a b : ℕ) → Counting (isBefore f t) P first end i a → Counting (isListed f t) P first end i b → end ≤ i
-    → L.Pairs a b ≡ list f t (holds (run P first end))
+pub list-done : (f P : List ℕ) (t first count i n a b : ℕ) → Counting (isBefore f t) P first count i n a → Counting (isListed f t) P first count i n b → n ≤ 0
+    → L.Pairs a b ≡ list f t (holds (run P first count))
 unfolding list before listing isBefore isListed shown
-list-done f P t first end i a b j k h =
+list-done f P t first count i n a b j k h =
     ap₂ L.Pairs
-    (count-done (isBefore f t) P first end i a j h ∙ only-shown (λ (p : Pair). below (p .key) (keyOf t [])) f (run P first end))
-    (count-done (isListed f t) P first end i b k h ∙ only-shown (λ (p : Pair). eqb (typeOf (p .key)) t) f (run P first end))
+    (count-done (isBefore f t) P first count i n a j h ∙ only-shown (λ (p : Pair). below (p .key) (keyOf t [])) f (run P first count))
+    (count-done (isListed f t) P first count i n b k h ∙ only-shown (λ (p : Pair). eqb (typeOf (p .key)) t) f (run P first count))
 
-pub ruleset countings = (count-first, count-fits, count-more, list-done)
+pub ruleset countings = (next-fits, count-first, count-fits, count-more, list-done)
 
 -- a listing, by what the map is
 module _ (f P : List ℕ) (t : ℕ) (fit : Fit) where
@@ -150,7 +150,7 @@ module _ (P : List ℕ) (fit : Fit) (i : ℕ) where
     unfolding entriesOf run pairCount
     long =
         let h : m .first + m .count ≤ length (pairEntries P) = w .inside m q in
-        rw (add-sub-cancel-left (m .first) (m .count), length-take, length-drop) (omega arith)
+        rw (length-take, length-drop) (omega arith)
 
     pub nth-past : m .count ≤ i → K.Refused OutOfRange ≡ nth i (heldOf P fit)
     unfolding nth heldOf
@@ -166,8 +166,7 @@ module _ (P : List ℕ) (fit : Fit) (i : ℕ) where
       pub nth-there : (e : PairEntry) → e ≡ pairAt P (m .first + i) → K.Is e ≡ nth i (heldOf P fit)
       unfolding nth heldOf entriesOf run pairAt
       nth-there e is =
-          let n : i < m .first + m .count - m .first = omega arith in
-          let g : getD (entriesOf P m) i noPair ≡ e = getD-take (m .first + m .count - m .first) (drop (m .first) (pairEntries P)) i noPair n ∙ getD-drop (m .first) (pairEntries P) i noPair ∙ sym is in
+          let g : getD (entriesOf P m) i noPair ≡ e = getD-take (m .count) (drop (m .first) (pairEntries P)) i noPair h ∙ getD-drop (m .first) (pairEntries P) i noPair ∙ sym is in
           rw q (sym (nth-near i (entriesOf P m) (omega (arith, long)) ∙ ap K.Is g))
 
 pub nth-is : (P : List ℕ) (fit : Fit) (i : ℕ) (h : Held) (r : Nth) → r ≡ nth i (heldOf P fit) → heldOf P fit ≡ h → r ≡ nth i h

@@ -2,15 +2,14 @@
 use mathlib.Core.Path.{_≡_, refl, sym, _∙_, ap}
 use mathlib.Core.Bool.{Bool, true, false}
 use mathlib.Core.List.{List, [], _∷_}
-use Prim.Native.Nat.{ℕ, suc, _+_, _-_, _^_, _≤_, _<_}
-use native.Mathlib.Nat.{add-sub-cancel-left}
+use Prim.Native.Nat.{ℕ, _+_, _-_, _^_, _≤_, _<_}
 use native.Mathlib.Omega.{arith}
 use borrow.Author.Tests.{le-leb, lt-leb, lt-ltb, le-ltb, leb-true, leb-false}
 use lib.Dec.{leb, ltb}
 use lib.ListN.{length, drop, drop-of-length-le}
 use Rattle.format.specs.Tests.{pick}
 use Rattle.format.specs.Entries.{pairEntries, mapEntries}
-use Rattle.format.specs.Tables.{fit, Held, no, holds, fitted, heldBy, mapsReported, held, heldInput, heldOutput}
+use Rattle.format.specs.Tables.{fit, fitted, heldBy, mapsReported, held, heldInput, heldOutput}
 use Rattle.format.specs.declared.PsbtError.{PsbtError}
 use Rattle.format.specs.declared.PsbtError.the-variants.{OutOfRange, BadIndex}
 use Rattle.format.specs.declared.MapEntry.{MapEntry}
@@ -18,7 +17,7 @@ use Rattle.format.specs.declared.Psbt.{Psbt}
 use Rattle.format.proofs.Tests.{pick-by, pick-ap}
 use Rattle.entries.specs.Words.{pairCount, mapCount, mapAt}
 use Rattle.entries.proofs.Tables.{map-count, map-here}
-use Rattle.lookup.specs.Fits.{run, entriesOf, heldOf, fitEntry, fitBy, fitAt, fitInput, fitOutput, Within}
+use Rattle.lookup.specs.Fits.{run, entriesOf, heldOf, fitEntry, fitBy, notListed, fitAt, fitInput, fitOutput, Within}
 use Rattle.lookup.specs.declared.Fit.{Fit}
 use Rattle.lookup.specs.declared.Fit.the-variants.{Refused, Is}
 
@@ -74,14 +73,14 @@ module _ (f P M : List ℕ) (s : Psbt) (m : ℕ) (b : Bool) (is : b ≡ ltb m (m
   unfolding fitAt
   map-unreported q = sym (rw (sym is ∙ q))
 
-  module _ (q : b ≡ true) (n : ℕ) (count : n ≡ mapCount M) where
-    pub map-missing : n ≤ m → Refused BadIndex ≡ fitAt f P M s m
-    unfolding fitAt fitBy mapCount
-    map-missing h = sym (rw (sym is ∙ q, drop-of-length-le (mapEntries M) {i = m} (omega arith)))
+  module _ (n : ℕ) (count : n ≡ mapCount M) where
+    pub map-missing : n ≤ m → (r : Fit) → r ≡ notListed b → r ≡ fitAt f P M s m
+    unfolding fitAt fitBy mapCount notListed
+    map-missing h r e = e ∙ sym (rw (sym is, drop-of-length-le (mapEntries M) {i = m} (omega arith)))
 
-    pub map-there : m < n → (e : MapEntry) → e ≡ mapAt M m → (r : Fit) → r ≡ fitEntry f P e → r ≡ fitAt f P M s m
+    pub map-there : b ≡ true → m < n → (e : MapEntry) → e ≡ mapAt M m → (r : Fit) → r ≡ fitEntry f P e → r ≡ fitAt f P M s m
     unfolding fitAt fitBy
-    map-there h e at r k = k ∙ sym (rw (sym is ∙ q, map-here M m (omega arith), ← at))
+    map-there q h e at r k = k ∙ sym (rw (sym is ∙ q, map-here M m (omega arith), ← at))
 
 pub ruleset map-numbers = (map-unreported, map-missing, map-there)
 
@@ -105,11 +104,11 @@ module _ (f P M : List ℕ) (s : Psbt) (i : ℕ) where
     output-near r e = e ∙ sym (rw (lt-ltb i (s .outputs) h))
 
     pub output-missing : 18446744073709551615 - s .inputs ≤ i → length M < 2 ^ 64 → Refused BadIndex ≡ fitOutput f P M s i
-    unfolding mapsReported
+    unfolding mapsReported notListed
     output-missing g l =
         output-near (Refused BadIndex)
-        (map-missing f P M s (1 + (s .inputs + i)) true (sym (lt-ltb (1 + (s .inputs + i)) (1 + (s .inputs + s .outputs)) (omega arith))) refl (mapCount M) refl
-        (omega (arith, map-count M)))
+        (map-missing f P M s (1 + (s .inputs + i)) true (sym (lt-ltb (1 + (s .inputs + i)) (1 + (s .inputs + s .outputs)) (omega arith))) (mapCount M) refl
+        (omega (arith, map-count M)) (Refused BadIndex) refl)
 
 pub ruleset by-numbers = (input-far, input-near, output-far, output-near, output-missing)
 
@@ -119,7 +118,7 @@ unfolding fitBy fitEntry heldOf heldBy fitted entriesOf run pairCount
 held-by f P [] = refl
 held-by f P (m ∷ ms) =
     pick-ap (heldOf P) (leb (m .first + m .count) (pairCount P)) _ _
-    ∙ rw (pick-ap (heldOf P) (fit f [] (entriesOf P m)) (Is m) (Refused BadIndex), add-sub-cancel-left (m .first) (m .count))
+    ∙ rw (pick-ap (heldOf P) (fit f [] (entriesOf P m)) (Is m) (Refused BadIndex))
 
 held-at : (f P M : List ℕ) (s : Psbt) (m : ℕ) → heldOf P (fitAt f P M s m) ≡ held f P M s m
 unfolding fitAt heldOf held

@@ -1,6 +1,6 @@
 -- Laws of parts of a file, and of the tests on one entry.
 use mathlib.Core.Path.{_≡_, refl, sym, _∙_, ap, ap₂}
-use mathlib.Core.Bool.{Bool, true, false, _&&_}
+use mathlib.Core.Bool.{Bool, true, false}
 use mathlib.Core.List.{List, []}
 use Prim.Native.Nat.{ℕ, _+_, _-_, _≤_, _<_}
 use native.Mathlib.Nat.{add-sub-cancel-left}
@@ -9,7 +9,7 @@ use borrow.Author.Tests.{le-leb, lt-leb, leb-true, leb-false}
 use lib.Dec.{leb, ltb}
 use lib.ListN.{length, take, drop, length-drop, drop-of-length-le}
 use lib.Seq.{take-all, take-nil}
-use Rattle.format.specs.Keys.{order, isBelow, isSame, below, same}
+use Rattle.format.specs.Keys.{order, isBelow, isSame, below}
 use Rattle.format.specs.Entries.{keyIn}
 use Rattle.format.specs.Tables.{inFile}
 use Rattle.format.specs.declared.Order.{Order}

@@ -1,6 +1,7 @@
 -- What the asked map is, by its entry: the same as the definition's, which says it by the map's pairs.
-use Prim.Native.Nat.{ℕ, _+_, _-_, _≤_}
+use Prim.Native.Nat.{ℕ, _+_, _≤_}
 use mathlib.Core.Path.{_≡_}
+use mathlib.Core.Bool.{Bool}
 use mathlib.Core.List.{List, [], _∷_}
 use lib.ListN.{take, drop}
 use lib.Dec.{leb, ltb}
@@ -15,13 +16,13 @@ use Rattle.entries.specs.Words.{pairCount}
 use Rattle.lookup.specs.declared.Fit.{Fit}
 use Rattle.lookup.specs.declared.Fit.the-variants.{Refused, Is}
 
--- the pairs from number i up to `end`
+-- n pairs from number i on
 unfoldable pub run : List ℕ → ℕ → ℕ → List PairEntry
-run P i end = take (end - i) (drop i (pairEntries P))
+run P i n = take n (drop i (pairEntries P))
 
 -- the pairs that a map's entry names
 unfoldable pub entriesOf : List ℕ → MapEntry → List PairEntry
-entriesOf P m = run P (m .first) (m .first + m .count)
+entriesOf P m = run P (m .first) (m .count)
 
 -- the map of an entry
 unfoldable pub heldOf : List ℕ → Fit → Held
@@ -31,6 +32,10 @@ heldOf P (Is m) = holds (entriesOf P m)
 -- a map's entry, where the pairs that it names are there and fit
 unfoldable pub fitEntry : List ℕ → List ℕ → MapEntry → Fit
 fitEntry f P m = pick (leb (m .first + m .count) (pairCount P)) (pick (fit f [] (entriesOf P m)) (Is m) (Refused BadIndex)) (Refused BadIndex)
+
+-- a map that the table doesn't have
+unfoldable pub notListed : Bool → Fit
+notListed reported = pick reported (Refused BadIndex) (Refused OutOfRange)
 
 -- the first map entry
 unfoldable pub fitBy : List ℕ → List ℕ → List MapEntry → Fit

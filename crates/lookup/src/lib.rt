@@ -18,7 +18,7 @@ ghost use Rattle.format.specs.Entries.{keyIn, valueIn};
 ghost use Rattle.format.specs.Tables.{inFile, fit, mapsReported, held, holds};
 ghost use Rattle.format.specs.Lookups.{place, lengthFits, ofLength, asked, look, part, numberAt, list, nth, keyPart, valuePart};
 ghost use Rattle.entries.specs.Words.{pairCount};
-ghost use Rattle.lookup.specs.Fits.{entriesOf, heldOf, fitEntry, fitAt, fitInput, fitOutput, Within};
+ghost use Rattle.lookup.specs.Fits.{entriesOf, heldOf, fitEntry, notListed, fitAt, fitInput, fitOutput, Within};
 ghost use Rattle.lookup.specs.Walks.{bytesAt, fitOne, lengthOf, Short, oneIf, isBefore, isListed};
 
 // What the asked map is: its entry, whose pairs are all fit, or the refusal.
@@ -125,19 +125,20 @@ fn fit_all(file: &[u8], pairs: &[u32], m: MapEntry) -> bool
     requires { ⌜ m .first + m .count ≤ pairCount (now pairs) ⌝ }
     ensures { λ r. ⌜ r ≡ fit (now (file .entry)) [] (entriesOf (now (pairs .entry)) m) ⌝ }
 {
-    let end = m.first + m.count;
     let mut i = m.first;
+    let mut unseen = m.count;
     let mut last = PairEntry {
         key: 0,
         klen: 0,
         value: 0,
         vlen: 0,
     };
-    while i < end {
+    while 0 < unseen {
         let e = entries::pair_entry(pairs, i);
         if fit_one(file, last, e) {
             last = e;
             i = i + 1;
+            unseen = unseen - 1;
         } else {
             return false;
         }
@@ -174,18 +175,30 @@ fn is_reported(psbt: Psbt, m: u64) -> bool
     }
 }
 
+// Why a map that the table doesn't have is refused: its number comes before its entry.
+fn not_listed(reported: bool) -> Fit
+    ensures { λ r. ⌜ r ≡ notListed reported ⌝ }
+{
+    if reported {
+        Fit::Refused(PsbtError::BadIndex)
+    } else {
+        Fit::Refused(PsbtError::OutOfRange)
+    }
+}
+
 // Map number `m`.
 pub fn fit_map(file: &[u8], pairs: &[u32], maps: &[u32], psbt: Psbt, m: u64) -> Fit
     ensures { λ r. ⌜ r ≡ fitAt (now (file .entry)) (now (pairs .entry)) (now (maps .entry)) psbt m ⌝ }
 {
-    if is_reported(psbt, m) {
-        if m < entries::map_count(maps) as u64 {
+    let reported = is_reported(psbt, m);
+    if m < entries::map_count(maps) as u64 {
+        if reported {
             fit_entry(file, pairs, entries::map_entry(maps, m as usize))
         } else {
-            Fit::Refused(PsbtError::BadIndex)
+            Fit::Refused(PsbtError::OutOfRange)
         }
     } else {
-        Fit::Refused(PsbtError::OutOfRange)
+        not_listed(reported)
     }
 }
 
@@ -219,10 +232,10 @@ fn is_key(file: &[u8], e: PairEntry, key_type: u8, key_data: &[u8]) -> bool
 {
     let key = key_in(file, e);
     if key.len() == 0 {
-        return false;
-    }
-    if key[0] == key_type {
-        is_same(keys::compare(key_data, &key[1..]))
+        false
+    } else if key[0] == key_type {
+        let data = &key[1..];
+        is_same(keys::compare(key_data, data))
     } else {
         false
     }
@@ -233,9 +246,9 @@ fn find_place(file: &[u8], pairs: &[u32], m: MapEntry, key_type: u8, key_data: &
     requires { ⌜ m .first + m .count ≤ pairCount (now pairs) ⌝ }
     ensures { λ r. ⌜ r ≡ place (now (file .entry)) (keyOf «key_type» (now («key_data» .entry))) (entriesOf (now (pairs .entry)) m) ⌝ }
 {
-    let end = m.first + m.count;
     let mut i = m.first;
-    while i < end {
+    let mut left = m.count;
+    while 0 < left {
         let e = entries::pair_entry(pairs, i);
         if is_key(file, e, key_type, key_data) {
             return Looked::At {
@@ -244,6 +257,7 @@ fn find_place(file: &[u8], pairs: &[u32], m: MapEntry, key_type: u8, key_data: &
             };
         }
         i = i + 1;
+        left = left - 1;
     }
     Looked::Absent
 }
@@ -398,15 +412,16 @@ fn list_entries(file: &[u8], pairs: &[u32], m: MapEntry, key_type: u8) -> Listin
     requires { ⌜ m .first + m .count ≤ pairCount (now pairs) ⌝ }
     ensures { λ r. ⌜ r ≡ list (now (file .entry)) «key_type» (holds (entriesOf (now (pairs .entry)) m)) ⌝ }
 {
-    let end = m.first + m.count;
     let mut i = m.first;
+    let mut rest = m.count;
     let mut first: usize = 0;
     let mut count: usize = 0;
-    while i < end {
+    while 0 < rest {
         let e = entries::pair_entry(pairs, i);
         first = first + one_if(is_before(file, e, key_type));
         count = count + one_if(is_listed(file, e, key_type));
         i = i + 1;
+        rest = rest - 1;
     }
     Listing::Pairs { first, count }
 }

@@ -1,18 +1,17 @@
 -- `lookup::fit_all` meets its contract. The loop's invariant: what is asked from pair `i` on, behind `last`, is what is asked of all. The measure is the number of pairs left.
 use borrow.Author.Needs.{needs}
-use Prim.Native.Nat.{_-_}
-use Rattle.lookup.proofs.Walks.{walks, Fitting, fittings}
+use Rattle.lookup.proofs.Walks.{Fitting, fittings}
 use Rattle.lookup.specs.Fits.{entriesOf}
 use Rattle.lookup.proofs.fit_all.Statement.{statement}
 use Rattle.lookup.proofs.fit_all.Tie as tie
 
 abbrev Inv-loop : tie.InvT-loop
-Inv-loop file pairs end i₀ last₀ i last = Fitting file pairs i₀ end i last
+Inv-loop file pairs i₀ unseen₀ last₀ i unseen last = Fitting file pairs i₀ unseen₀ i unseen last
 
 abbrev μ-loop : tie.MeasureT-loop
-μ-loop file pairs end i₀ last₀ i last = end - i
+μ-loop file pairs i₀ unseen₀ last₀ i unseen last = unseen
 
--- needs: needs, walks, fittings | entriesOf
+-- needs: needs, fittings | entriesOf
 pub fit-all-spec : {M : Type 1} → statement M
 unfolding entriesOf
 fit-all-spec =
@@ -20,12 +19,12 @@ fit-all-spec =
     (tie.spec
     Inv-loop
     μ-loop
-    (λ c. search (needs, walks, fittings))
-    (λ c. search (needs, walks, fittings))
-    (λ c κs. search (needs, walks, fittings))
-    (λ c κs. search (needs, walks, fittings))
-    (λ c. search (needs, walks, fittings))
-    (λ c. search (needs, walks, fittings))
-    (λ c. search (needs, walks, fittings))
-    (λ c. search (needs, walks, fittings))
-    (λ c. search (needs, walks, fittings)))
+    (λ c. search (needs, fittings))
+    (λ c κs. search (needs, fittings))
+    (λ c κs. search (needs, fittings))
+    (λ c. search (needs, fittings))
+    (λ c. search (needs, fittings))
+    (λ c. search (needs, fittings))
+    (λ c. search (needs, fittings))
+    (λ c. search (needs, fittings))
+    (λ c. search (needs, fittings)))

@@ -13,6 +13,7 @@ fit-map-spec =
     (λ c κs. search (needs, map-numbers))
     (λ c κs. search (needs, map-numbers))
     (λ c κs. search (needs, map-numbers))
+    (λ c κs. search (needs, map-numbers))
     (λ c. search (needs, map-numbers))
     (λ c. search (needs, map-numbers))
     (λ c. search (needs, map-numbers)))
