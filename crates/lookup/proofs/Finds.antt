@@ -1,18 +1,18 @@
 -- Laws of finding a key in the pairs of a map, and of what is asked of the value found.
 use mathlib.Core.Path.{_≡_, refl, sym, _∙_, ap}
-use mathlib.Core.Bool.{Bool, true, false}
+use mathlib.Core.Bool.{Bool, true, false, _&&_}
 use mathlib.Core.List.{List, [], _∷_}
 use Prim.Native.Nat.{ℕ, _+_, _-_, _%_, _≤_, _<_}
 use native.Mathlib.Omega.{arith}
-use borrow.Author.Tests.{ltb-false, le-ltb, eq-eqb, ne-eqb}
-use lib.Dec.{eqb, ltb}
+use borrow.Author.Tests.{leb-true, ltb-false, le-ltb, eq-eqb, ne-eqb}
+use lib.Dec.{leb, ltb, eqb}
 use lib.ListN.{length, take, drop, getD, length-take}
 use lib.Seq.{take-all}
 use Rattle.format.specs.Tests.{pick}
 use Rattle.format.specs.Numbers.{le}
-use Rattle.format.specs.Keys.{keyOf, order, isSame, same}
+use Rattle.format.specs.Keys.{keyOf, order, isSame, below, same}
 use Rattle.format.specs.Entries.{keyIn}
-use Rattle.format.specs.Tables.{Held}
+use Rattle.format.specs.Tables.{inFile, fit, Held}
 use Rattle.format.specs.Lookups.{Length, anyLength, place, lengthFits, ofLength, asked, look, part, numberAt}
 use Rattle.format.specs.declared.PsbtError.{PsbtError}
 use Rattle.format.specs.declared.PsbtError.the-variants.{BadValue}
@@ -22,12 +22,12 @@ use Rattle.format.specs.declared.MapEntry.{MapEntry}
 use Rattle.format.specs.declared.Looked.{Looked}
 use Rattle.format.specs.declared.Looked.the-variants.{Refused, Absent, At}
 use Rattle.format.specs.declared.Numbered.the-variants as N
-use Rattle.format.proofs.Tests.{pick-by}
+use Rattle.format.proofs.Tests.{pick-by, and-left, and-right}
 use Rattle.wire.specs.Leads.{lead}
 use Rattle.wire.proofs.Sizes.{part-rest}
 use Rattle.entries.specs.Words.{pairCount, pairAt}
-use Rattle.lookup.specs.Fits.{run, entriesOf, heldOf}
-use Rattle.lookup.specs.Walks.{bytesAt, lengthOf, Short}
+use Rattle.lookup.specs.Fits.{run, entriesOf, heldOf, Sound}
+use Rattle.lookup.specs.Walks.{bytesAt, lengthOf, Short, Lies}
 use Rattle.lookup.specs.declared.Fit.{Fit}
 use Rattle.lookup.specs.declared.Fit.the-variants as F
 use Rattle.lookup.specs.declared.Wanted.{Wanted}
@@ -187,3 +187,29 @@ pub part-is : (f v : List ℕ) (x y : Looked) → v ≡ part f x → x ≡ y →
 part-is f v x y e q = e ∙ ap (part f) q
 
 pub ruleset answers = (part-refused, part-absent, part-found, number-refused, number-absent, number-found)
+
+-- a value that is found lies in the file
+place-in : (f key last : List ℕ) (es : List PairEntry) → fit f last es ≡ true → Lies f (place f key es)
+unfolding fit place inFile
+place-in f key last [] h = record { inside = λ s n q. let z : _≡_ {A = ℕ} 0 1 = cc in absurd (omega arith) }
+place-in f key last (e ∷ es) h =
+    let a = and-left (inFile f e && below last (keyIn f e)) (fit f (keyIn f e) es) h in
+    let v = and-left (leb (e .value + e .vlen) (length f)) (ltb 0 (e .klen)) (and-right (leb (e .key + e .klen) (length f)) _ (and-left (inFile f e) (below last (keyIn f e)) a)) in
+    pick-by (Lies f) (same key (keyIn f e)) _ _
+    (λ q. record { inside = λ s n w. let x : e .value ≡ s = cc in let y : e .vlen ≡ n = cc in omega (arith, leb-true (e .value + e .vlen) (length f) v) })
+    (λ q. place-in f key (keyIn f e) es (and-right (inFile f e && below last (keyIn f e)) (fit f (keyIn f e) es) h))
+
+refused-in : (f : List ℕ) (e : PsbtError) → Lies f (Refused e)
+refused-in f e = record { inside = λ s n q. let z : _≡_ {A = ℕ} 0 1 = cc in absurd (omega arith) }
+
+of-in : (f : List ℕ) (l : Length) (o : Looked) → Lies f o → Lies f (ofLength l o)
+unfolding ofLength
+of-in f l (Refused e) h = h
+of-in f l Absent h = h
+of-in f l (At s n) h = pick-by (Lies f) (lengthFits l n) _ _ (λ q. h) (λ q. refused-in f BadValue)
+
+pub asked-in : (ok : Bool) (l : Length) (f key P : List ℕ) (fit : Fit) → Sound f P fit → Lies f (asked ok l f key (heldOf P fit))
+unfolding asked heldOf
+asked-in ok l f key P (F.Refused e) h = refused-in f e
+asked-in ok l f key P (F.Is m) h =
+    pick-by (Lies f) ok _ _ (λ q. of-in f l (place f key (entriesOf P m)) (place-in f key [] (entriesOf P m) (h .fits m refl))) (λ q. refused-in f BadValue)

@@ -17,7 +17,7 @@ use Rattle.format.specs.declared.Psbt.{Psbt}
 use Rattle.format.proofs.Tests.{pick-by, pick-ap}
 use Rattle.entries.specs.Words.{pairCount, mapCount, mapAt}
 use Rattle.entries.proofs.Tables.{map-count, map-here}
-use Rattle.lookup.specs.Fits.{run, entriesOf, heldOf, fitEntry, fitBy, notListed, fitAt, fitInput, fitOutput, Within}
+use Rattle.lookup.specs.Fits.{run, entriesOf, heldOf, fitEntry, fitBy, notListed, fitAt, fitInput, fitOutput, Within, Sound}
 use Rattle.lookup.specs.declared.Fit.{Fit}
 use Rattle.lookup.specs.declared.Fit.the-variants.{Refused, Is}
 
@@ -124,54 +124,71 @@ held-at : (f P M : List ℕ) (s : Psbt) (m : ℕ) → heldOf P (fitAt f P M s m)
 unfolding fitAt heldOf held
 held-at f P M s m = pick-ap (heldOf P) (ltb m (mapsReported s)) _ _ ∙ rw (held-by f P (drop m (mapEntries M)))
 
--- the pairs that it names are in the table
-refusal-within : (P : List ℕ) (e : PsbtError) → Within P (Refused e)
-refusal-within P e = record { inside = λ m q. let z : _≡_ {A = ℕ} 0 1 = cc in absurd (omega arith) }
+-- the pairs that it names are in the table, and fit
+refusal-sound : (f P : List ℕ) (e : PsbtError) → Sound f P (Refused e)
+refusal-sound f P e =
+    record {
+      within = record { inside = λ m q. let z : _≡_ {A = ℕ} 0 1 = cc in absurd (omega arith) };
+      fits = λ m q. let z : _≡_ {A = ℕ} 0 1 = cc in absurd (omega arith);
+    }
 
-entry-within : (f P : List ℕ) (m : MapEntry) → Within P (fitEntry f P m)
+entry-sound : (f P : List ℕ) (m : MapEntry) → Sound f P (fitEntry f P m)
 unfolding fitEntry
-entry-within f P m =
-    pick-by (Within P) (leb (m .first + m .count) (pairCount P)) _ _
-    (λ q. pick-by (Within P) (fit f [] (entriesOf P m)) _ _
-    (λ w. record { inside = λ x e. let y : m ≡ x = cc in rw (← y) (leb-true (m .first + m .count) (pairCount P) q) })
-    (λ w. refusal-within P BadIndex))
-    (λ q. refusal-within P BadIndex)
+entry-sound f P m =
+    pick-by (Sound f P) (leb (m .first + m .count) (pairCount P)) _ _
+    (λ q. pick-by (Sound f P) (fit f [] (entriesOf P m)) _ _
+    (λ w. record {
+      within = record { inside = λ x e. let y : m ≡ x = cc in rw (← y) (leb-true (m .first + m .count) (pairCount P) q) };
+      fits = λ x e. let y : m ≡ x = cc in rw (← y) w;
+    })
+    (λ w. refusal-sound f P BadIndex))
+    (λ q. refusal-sound f P BadIndex)
 
-by-within : (f P : List ℕ) (ms : List MapEntry) → Within P (fitBy f P ms)
+by-sound : (f P : List ℕ) (ms : List MapEntry) → Sound f P (fitBy f P ms)
 unfolding fitBy
-by-within f P [] = refusal-within P BadIndex
-by-within f P (m ∷ ms) = entry-within f P m
+by-sound f P [] = refusal-sound f P BadIndex
+by-sound f P (m ∷ ms) = entry-sound f P m
 
-at-within : (f P M : List ℕ) (s : Psbt) (m : ℕ) → Within P (fitAt f P M s m)
+at-sound : (f P M : List ℕ) (s : Psbt) (m : ℕ) → Sound f P (fitAt f P M s m)
 unfolding fitAt
-at-within f P M s m =
-    pick-by (Within P) (ltb m (mapsReported s)) _ _ (λ q. by-within f P (drop m (mapEntries M))) (λ q. refusal-within P OutOfRange)
+at-sound f P M s m =
+    pick-by (Sound f P) (ltb m (mapsReported s)) _ _ (λ q. by-sound f P (drop m (mapEntries M))) (λ q. refusal-sound f P OutOfRange)
 
 -- what callers learn of a map, an input, an output
 module _ (f P M : List ℕ) (s : Psbt) (m : ℕ) (r : Fit) where
   pub map-held : r ≡ fitAt f P M s m → heldOf P r ≡ held f P M s m
   map-held e = ap (heldOf P) e ∙ held-at f P M s m
 
+  pub map-sound : r ≡ fitAt f P M s m → Sound f P r
+  map-sound e = rw e (at-sound f P M s m)
+
   pub map-within : r ≡ fitAt f P M s m → Within P r
-  map-within e = rw e (at-within f P M s m)
+  map-within e = map-sound e .within
 
   pub input-held : r ≡ fitInput f P M s m → heldOf P r ≡ heldInput f P M s m
   unfolding fitInput heldInput heldOf
   input-held e = ap (heldOf P) e ∙ pick-ap (heldOf P) (ltb m (s .inputs)) _ _ ∙ rw (held-at f P M s (1 + m))
 
-  pub input-within : r ≡ fitInput f P M s m → Within P r
+  pub input-sound : r ≡ fitInput f P M s m → Sound f P r
   unfolding fitInput
-  input-within e = rw e (pick-by (Within P) (ltb m (s .inputs)) _ _ (λ q. at-within f P M s (1 + m)) (λ q. refusal-within P OutOfRange))
+  input-sound e = rw e (pick-by (Sound f P) (ltb m (s .inputs)) _ _ (λ q. at-sound f P M s (1 + m)) (λ q. refusal-sound f P OutOfRange))
+
+  pub input-within : r ≡ fitInput f P M s m → Within P r
+  input-within e = input-sound e .within
 
   pub output-held : r ≡ fitOutput f P M s m → heldOf P r ≡ heldOutput f P M s m
   unfolding fitOutput heldOutput heldOf
   output-held e = ap (heldOf P) e ∙ pick-ap (heldOf P) (ltb m (s .outputs)) _ _ ∙ rw (held-at f P M s (1 + (s .inputs + m)))
 
-  pub output-within : r ≡ fitOutput f P M s m → Within P r
+  pub output-sound : r ≡ fitOutput f P M s m → Sound f P r
   unfolding fitOutput
-  output-within e = rw e (pick-by (Within P) (ltb m (s .outputs)) _ _ (λ q. at-within f P M s (1 + (s .inputs + m))) (λ q. refusal-within P OutOfRange))
+  output-sound e = rw e (pick-by (Sound f P) (ltb m (s .outputs)) _ _ (λ q. at-sound f P M s (1 + (s .inputs + m))) (λ q. refusal-sound f P OutOfRange))
+
+  pub output-within : r ≡ fitOutput f P M s m → Within P r
+  output-within e = output-sound e .within
 
 pub within-is : (P : List ℕ) (r : Fit) (m : MapEntry) → Within P r → r ≡ Is m → m .first + m .count ≤ pairCount P
 within-is P r m h e = h .inside m e
 
 pub ruleset fits = (map-within, input-within, output-within, within-is)
+pub ruleset sounds = (map-sound, input-sound, output-sound)

@@ -1,7 +1,7 @@
 -- What the asked map is, by its entry: the same as the definition's, which says it by the map's pairs.
 use Prim.Native.Nat.{ℕ, _+_, _≤_}
 use mathlib.Core.Path.{_≡_}
-use mathlib.Core.Bool.{Bool}
+use mathlib.Core.Bool.{Bool, true}
 use mathlib.Core.List.{List, [], _∷_}
 use lib.ListN.{take, drop}
 use lib.Dec.{leb, ltb}
@@ -55,3 +55,8 @@ fitOutput f P M s i = pick (ltb i (s .outputs)) (fitAt f P M s (1 + (s .inputs +
 -- the pairs that a map's entry names are in the table
 pub record Within (P : List ℕ) (r : Fit) : Type 0 where
   pub inside : (m : MapEntry) → r ≡ Is m → m .first + m .count ≤ pairCount P
+
+-- and they are fit
+pub record Sound (f P : List ℕ) (r : Fit) : Type 0 where
+  pub within : Within P r
+  pub fits : (m : MapEntry) → r ≡ Is m → fit f [] (entriesOf P m) ≡ true

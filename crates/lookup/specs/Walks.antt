@@ -3,7 +3,7 @@ use Prim.Native.Nat.{ℕ, _+_, _≤_}
 use mathlib.Core.Path.{_≡_}
 use mathlib.Core.Bool.{Bool, true, false, _&&_}
 use mathlib.Core.List.{List, [], _∷_}
-use lib.ListN.{take, drop}
+use lib.ListN.{length, take, drop}
 use lib.Dec.{eqb}
 use Rattle.format.specs.Keys.{typeOf, keyOf, below}
 use Rattle.format.specs.Entries.{keyIn}
@@ -32,6 +32,10 @@ lengthOf W.KeyList = keyList
 -- a value that was found spells a number of 64 bits
 pub record Short (r : Looked) : Type 0 where
   pub few : (s n : ℕ) → r ≡ At s n → n ≤ 8
+
+-- and it lies in the file
+pub record Lies (f : List ℕ) (r : Looked) : Type 0 where
+  pub inside : (s n : ℕ) → r ≡ At s n → s + n ≤ length f
 
 -- one where a test holds
 unfoldable pub oneIf : Bool → ℕ
