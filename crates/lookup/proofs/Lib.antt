@@ -1,0 +1,5 @@
+pub mod Parts
+pub mod Walks
+pub mod Maps
+pub mod Finds
+pub mod Lists

@@ -1,0 +1,15 @@
+-- `lookup::key_in` meets its contract.
+use borrow.Author.Needs.{needs}
+use Rattle.format.specs.Entries.{keyIn}
+use Rattle.lookup.specs.Walks.{bytesAt}
+use Rattle.lookup.proofs.key_in.Statement.{statement}
+use Rattle.lookup.proofs.key_in.Tie as tie
+
+-- needs: needs | keyIn bytesAt
+pub key-in-spec : {M : Type 1} → statement M
+unfolding keyIn bytesAt
+key-in-spec =
+    tie.close
+    (tie.spec
+    (λ c κs. search (needs))
+    (λ c. search (needs)))

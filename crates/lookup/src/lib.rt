@@ -1,0 +1,516 @@
+// Lookups and listings in a map of lent tables, which may hold anything.
+use format::Listing;
+use format::Looked;
+use format::MapEntry;
+use format::Nth;
+use format::Numbered;
+use format::Order;
+use format::PairEntry;
+use format::Psbt;
+use format::PsbtError;
+ghost use mathlib.Core.Path.{_≡_};
+ghost use mathlib.Core.List.{[]};
+ghost use Prim.Native.Nat.{_+_, _≤_};
+ghost use lib.Dec.{leb, ltb};
+ghost use lib.ListN.{length};
+ghost use Rattle.format.specs.Keys.{typeOf, keyOf, isBelow, isSame, same};
+ghost use Rattle.format.specs.Entries.{keyIn, valueIn};
+ghost use Rattle.format.specs.Tables.{inFile, fit, mapsReported, held, holds};
+ghost use Rattle.format.specs.Lookups.{place, lengthFits, ofLength, asked, look, part, numberAt, list, nth, keyPart, valuePart};
+ghost use Rattle.entries.specs.Words.{pairCount};
+ghost use Rattle.lookup.specs.Fits.{entriesOf, heldOf, fitEntry, notListed, fitAt, fitInput, fitOutput, Within};
+ghost use Rattle.lookup.specs.Walks.{bytesAt, fitOne, lengthOf, Short, oneIf, isBefore, isListed};
+
+// What the asked map is: its entry, whose pairs are all fit, or the refusal.
+pub enum Fit {
+    Refused(PsbtError),
+    Is(MapEntry),
+}
+
+// Which lengths of a value are right: any, one of so many bytes, a list of 33-byte keys that is not empty.
+pub enum Wanted {
+    AnyLength,
+    Exactly(usize),
+    KeyList,
+}
+
+// The greatest map number that a caller can ask.
+const GREATEST: u64 = 18446744073709551615;
+
+// `len` bytes from `start` on, or as many as there are.
+fn bytes_at(file: &[u8], start: usize, len: usize) -> &[u8]
+    ensures { λ r. ⌜ now r ≡ bytesAt (now (file .entry)) start len ⌝ }
+{
+    if file.len() <= start {
+        return &file[..0];
+    }
+    if file.len() - start < len {
+        return &file[start..];
+    }
+    &file[start..start + len]
+}
+
+// The key and the value that an entry names.
+fn key_in(file: &[u8], e: PairEntry) -> &[u8]
+    ensures { λ r. ⌜ now r ≡ keyIn (now (file .entry)) e ⌝ }
+{
+    bytes_at(file, e.key, e.klen)
+}
+
+fn value_in(file: &[u8], e: PairEntry) -> &[u8]
+    ensures { λ r. ⌜ now r ≡ valueIn (now (file .entry)) e ⌝ }
+{
+    bytes_at(file, e.value, e.vlen)
+}
+
+fn is_below(o: Order) -> bool
+    ensures { λ r. ⌜ r ≡ isBelow o ⌝ }
+{
+    match o {
+        Order::Below => true,
+        Order::Same => false,
+        Order::Above => false,
+    }
+}
+
+fn is_same(o: Order) -> bool
+    ensures { λ r. ⌜ r ≡ isSame o ⌝ }
+{
+    match o {
+        Order::Below => false,
+        Order::Same => true,
+        Order::Above => false,
+    }
+}
+
+// `len` bytes from `start` on lie in the file.
+fn lies(file: &[u8], start: usize, len: usize) -> bool
+    ensures { λ r. ⌜ r ≡ leb (start + len) (length (now (file .entry))) ⌝ }
+{
+    if file.len() < start {
+        false
+    } else {
+        len <= file.len() - start
+    }
+}
+
+// An entry's key and value lie in the file, and its key is not empty.
+fn in_file(file: &[u8], e: PairEntry) -> bool
+    ensures { λ r. ⌜ r ≡ inFile (now (file .entry)) e ⌝ }
+{
+    if lies(file, e.key, e.klen) {
+        if lies(file, e.value, e.vlen) {
+            0 < e.klen
+        } else {
+            false
+        }
+    } else {
+        false
+    }
+}
+
+// An entry is fit behind the entry `last`.
+fn fit_one(file: &[u8], last: PairEntry, e: PairEntry) -> bool
+    ensures { λ r. ⌜ r ≡ fitOne (now (file .entry)) last e ⌝ }
+{
+    if in_file(file, e) {
+        is_below(keys::compare(key_in(file, last), key_in(file, e)))
+    } else {
+        false
+    }
+}
+
+// The pairs of a map are all fit.
+fn fit_all(file: &[u8], pairs: &[u32], m: MapEntry) -> bool
+    requires { ⌜ m .first + m .count ≤ pairCount (now pairs) ⌝ }
+    ensures { λ r. ⌜ r ≡ fit (now (file .entry)) [] (entriesOf (now (pairs .entry)) m) ⌝ }
+{
+    let mut i = m.first;
+    let mut unseen = m.count;
+    let mut last = PairEntry {
+        key: 0,
+        klen: 0,
+        value: 0,
+        vlen: 0,
+    };
+    while 0 < unseen {
+        let e = entries::pair_entry(pairs, i);
+        if fit_one(file, last, e) {
+            last = e;
+            i = i + 1;
+            unseen = unseen - 1;
+        } else {
+            return false;
+        }
+    }
+    true
+}
+
+// The map of an entry.
+fn fit_entry(file: &[u8], pairs: &[u32], m: MapEntry) -> Fit
+    ensures { λ r. ⌜ r ≡ fitEntry (now (file .entry)) (now (pairs .entry)) m ⌝ }
+{
+    let n = entries::pair_count(pairs);
+    if n < m.first {
+        return Fit::Refused(PsbtError::BadIndex);
+    }
+    if n - m.first < m.count {
+        return Fit::Refused(PsbtError::BadIndex);
+    }
+    if fit_all(file, pairs, m) {
+        Fit::Is(m)
+    } else {
+        Fit::Refused(PsbtError::BadIndex)
+    }
+}
+
+// A map's number is below one plus both reported counts.
+fn is_reported(psbt: Psbt, m: u64) -> bool
+    ensures { λ r. ⌜ r ≡ ltb m (mapsReported psbt) ⌝ }
+{
+    if m <= psbt.inputs {
+        true
+    } else {
+        m - psbt.inputs <= psbt.outputs
+    }
+}
+
+// Why a map that the table doesn't have is refused: its number comes before its entry.
+fn not_listed(reported: bool) -> Fit
+    ensures { λ r. ⌜ r ≡ notListed reported ⌝ }
+{
+    if reported {
+        Fit::Refused(PsbtError::BadIndex)
+    } else {
+        Fit::Refused(PsbtError::OutOfRange)
+    }
+}
+
+// Map number `m`.
+pub fn fit_map(file: &[u8], pairs: &[u32], maps: &[u32], psbt: Psbt, m: u64) -> Fit
+    ensures { λ r. ⌜ r ≡ fitAt (now (file .entry)) (now (pairs .entry)) (now (maps .entry)) psbt m ⌝ }
+{
+    let reported = is_reported(psbt, m);
+    if m < entries::map_count(maps) as u64 {
+        if reported {
+            fit_entry(file, pairs, entries::map_entry(maps, m as usize))
+        } else {
+            Fit::Refused(PsbtError::OutOfRange)
+        }
+    } else {
+        not_listed(reported)
+    }
+}
+
+// Input number `i`, and output number `i`.
+pub fn fit_input(file: &[u8], pairs: &[u32], maps: &[u32], psbt: Psbt, i: u64) -> Fit
+    ensures { λ r. ⌜ r ≡ fitInput (now (file .entry)) (now (pairs .entry)) (now (maps .entry)) psbt i ⌝ }
+{
+    if i < psbt.inputs {
+        fit_map(file, pairs, maps, psbt, 1 + i)
+    } else {
+        Fit::Refused(PsbtError::OutOfRange)
+    }
+}
+
+pub fn fit_output(file: &[u8], pairs: &[u32], maps: &[u32], psbt: Psbt, i: u64) -> Fit
+    ensures { λ r. ⌜ r ≡ fitOutput (now (file .entry)) (now (pairs .entry)) (now (maps .entry)) psbt i ⌝ }
+{
+    if psbt.outputs <= i {
+        return Fit::Refused(PsbtError::OutOfRange);
+    }
+    // No table has so many entries.
+    if GREATEST - psbt.inputs <= i {
+        return Fit::Refused(PsbtError::BadIndex);
+    }
+    fit_map(file, pairs, maps, psbt, 1 + (psbt.inputs + i))
+}
+
+// An entry's key is the asked one.
+fn is_key(file: &[u8], e: PairEntry, key_type: u8, key_data: &[u8]) -> bool
+    ensures { λ r. ⌜ r ≡ same (keyOf «key_type» (now («key_data» .entry))) (keyIn (now (file .entry)) e) ⌝ }
+{
+    let key = key_in(file, e);
+    if key.len() == 0 {
+        false
+    } else if key[0] == key_type {
+        let data = &key[1..];
+        is_same(keys::compare(key_data, data))
+    } else {
+        false
+    }
+}
+
+// Where the value of the asked key stands.
+fn find_place(file: &[u8], pairs: &[u32], m: MapEntry, key_type: u8, key_data: &[u8]) -> Looked
+    requires { ⌜ m .first + m .count ≤ pairCount (now pairs) ⌝ }
+    ensures { λ r. ⌜ r ≡ place (now (file .entry)) (keyOf «key_type» (now («key_data» .entry))) (entriesOf (now (pairs .entry)) m) ⌝ }
+{
+    let mut i = m.first;
+    let mut left = m.count;
+    while 0 < left {
+        let e = entries::pair_entry(pairs, i);
+        if is_key(file, e, key_type, key_data) {
+            return Looked::At {
+                start: e.value,
+                len: e.vlen,
+            };
+        }
+        i = i + 1;
+        left = left - 1;
+    }
+    Looked::Absent
+}
+
+fn length_fits(wanted: Wanted, n: usize) -> bool
+    ensures { λ r. ⌜ r ≡ lengthFits (lengthOf wanted) n ⌝ }
+{
+    match wanted {
+        Wanted::AnyLength => true,
+        Wanted::Exactly(w) => n == w,
+        Wanted::KeyList => { if n == 0 { false } else { n % 33 == 0 } }
+    }
+}
+
+// A value of a wrong length is refused.
+fn of_length(wanted: Wanted, looked: Looked) -> Looked
+    ensures { λ r. ⌜ r ≡ ofLength (lengthOf wanted) looked ⌝ }
+{
+    match looked {
+        Looked::Refused(e) => Looked::Refused(e),
+        Looked::Absent => Looked::Absent,
+        Looked::At { start, len } => {
+            if length_fits(wanted, len) {
+                Looked::At { start, len }
+            } else {
+                Looked::Refused(PsbtError::BadValue)
+            }
+        }
+    }
+}
+
+// A typed lookup: the map's refusal, the asked key's length, absence, the value's length.
+pub fn asked(
+    file: &[u8],
+    pairs: &[u32],
+    fit: Fit,
+    ok: bool,
+    wanted: Wanted,
+    key_type: u8,
+    key_data: &[u8],
+) -> Looked
+    requires { ⌜ Within (now pairs) fit ⌝ }
+    ensures { λ r. ⌜ r ≡ asked ok (lengthOf wanted) (now (file .entry)) (keyOf «key_type» (now («key_data» .entry))) (heldOf (now (pairs .entry)) fit) ⌝ }
+{
+    match fit {
+        Fit::Refused(e) => Looked::Refused(e),
+        Fit::Is(m) => {
+            if ok {
+                of_length(wanted, find_place(file, pairs, m, key_type, key_data))
+            } else {
+                Looked::Refused(PsbtError::BadValue)
+            }
+        }
+    }
+}
+
+// The lookup of any key: where its value stands, that there is none, or the refusal.
+pub fn get(
+    file: &[u8],
+    pairs: &[u32],
+    maps: &[u32],
+    psbt: Psbt,
+    m: u64,
+    key_type: u8,
+    key_data: &[u8],
+) -> Looked
+    ensures { λ r. ⌜ r ≡ look (now (file .entry)) «key_type» (now («key_data» .entry)) (held (now (file .entry)) (now (pairs .entry)) (now (maps .entry)) psbt m) ⌝ }
+{
+    let fit = fit_map(file, pairs, maps, psbt, m);
+    asked(
+        file,
+        pairs,
+        fit,
+        true,
+        Wanted::AnyLength,
+        key_type,
+        key_data,
+    )
+}
+
+// The part of the file that a lookup hands back: empty for absence and refusal.
+pub fn part_of(file: &[u8], looked: Looked) -> &[u8]
+    ensures { λ r. ⌜ now r ≡ part (now (file .entry)) looked ⌝ }
+{
+    match looked {
+        Looked::Refused(_) => &file[..0],
+        Looked::Absent => &file[..0],
+        Looked::At { start, len } => bytes_at(file, start, len),
+    }
+}
+
+// The value that `get` finds, as the part of the file itself.
+pub fn get_part<'a>(
+    file: &'a [u8],
+    pairs: &[u32],
+    maps: &[u32],
+    psbt: Psbt,
+    m: u64,
+    key_type: u8,
+    key_data: &[u8],
+) -> &'a [u8]
+    ensures { λ r. ⌜ now r ≡ part (now (file .entry)) (look (now (file .entry)) «key_type» (now («key_data» .entry)) (held (now (file .entry)) (now (pairs .entry)) (now (maps .entry)) psbt m)) ⌝ }
+{
+    let looked = get(file, pairs, maps, psbt, m, key_type, key_data);
+    part_of(file, looked)
+}
+
+// The number that a value spells.
+pub fn number_at(file: &[u8], looked: Looked) -> Numbered
+    requires { ⌜ Short looked ⌝ }
+    ensures { λ r. ⌜ r ≡ numberAt (now (file .entry)) looked ⌝ }
+{
+    match looked {
+        Looked::Refused(e) => Numbered::Refused(e),
+        Looked::Absent => Numbered::Absent,
+        Looked::At { start, len } => {
+            Numbered::Is(wire::u64_from_le_bytes(bytes_at(file, start, len)))
+        }
+    }
+}
+
+fn one_if(b: bool) -> usize
+    ensures { λ r. ⌜ r ≡ oneIf b ⌝ }
+{
+    if b { 1 } else { 0 }
+}
+
+// A key's type.
+fn type_of(key: &[u8]) -> u8
+    ensures { λ r. ⌜ r ≡ typeOf (now (key .entry)) ⌝ }
+{
+    if key.len() == 0 { 0 } else { key[0] }
+}
+
+// An entry's key stands before the bare key of a type.
+fn is_before(file: &[u8], e: PairEntry, key_type: u8) -> bool
+    ensures { λ r. ⌜ r ≡ isBefore (now (file .entry)) «key_type» e ⌝ }
+{
+    let bare = [key_type];
+    is_below(keys::compare(key_in(file, e), &bare))
+}
+
+// An entry's key has a type.
+fn is_listed(file: &[u8], e: PairEntry, key_type: u8) -> bool
+    ensures { λ r. ⌜ r ≡ isListed (now (file .entry)) «key_type» e ⌝ }
+{
+    type_of(key_in(file, e)) == key_type
+}
+
+// The pairs of a type in a map: where they begin in it, or would, and how many they are.
+fn list_entries(file: &[u8], pairs: &[u32], m: MapEntry, key_type: u8) -> Listing
+    requires { ⌜ m .first + m .count ≤ pairCount (now pairs) ⌝ }
+    ensures { λ r. ⌜ r ≡ list (now (file .entry)) «key_type» (holds (entriesOf (now (pairs .entry)) m)) ⌝ }
+{
+    let mut i = m.first;
+    let mut rest = m.count;
+    let mut first: usize = 0;
+    let mut count: usize = 0;
+    while 0 < rest {
+        let e = entries::pair_entry(pairs, i);
+        first = first + one_if(is_before(file, e, key_type));
+        count = count + one_if(is_listed(file, e, key_type));
+        i = i + 1;
+        rest = rest - 1;
+    }
+    Listing::Pairs { first, count }
+}
+
+pub fn list_in(file: &[u8], pairs: &[u32], fit: Fit, key_type: u8) -> Listing
+    requires { ⌜ Within (now pairs) fit ⌝ }
+    ensures { λ r. ⌜ r ≡ list (now (file .entry)) «key_type» (heldOf (now (pairs .entry)) fit) ⌝ }
+{
+    match fit {
+        Fit::Refused(e) => Listing::Refused(e),
+        Fit::Is(m) => list_entries(file, pairs, m, key_type),
+    }
+}
+
+// The listing of a type in map number `m`.
+pub fn list(file: &[u8], pairs: &[u32], maps: &[u32], psbt: Psbt, m: u64, key_type: u8) -> Listing
+    ensures { λ r. ⌜ r ≡ list (now (file .entry)) «key_type» (held (now (file .entry)) (now (pairs .entry)) (now (maps .entry)) psbt m) ⌝ }
+{
+    let fit = fit_map(file, pairs, maps, psbt, m);
+    list_in(file, pairs, fit, key_type)
+}
+
+// A pair by its number in its map.
+pub fn nth_in(pairs: &[u32], fit: Fit, i: usize) -> Nth
+    requires { ⌜ Within (now pairs) fit ⌝ }
+    ensures { λ r. ⌜ r ≡ nth i (heldOf (now (pairs .entry)) fit) ⌝ }
+{
+    match fit {
+        Fit::Refused(e) => Nth::Refused(e),
+        Fit::Is(m) => {
+            if i < m.count {
+                Nth::Is(entries::pair_entry(pairs, m.first + i))
+            } else {
+                Nth::Refused(PsbtError::OutOfRange)
+            }
+        }
+    }
+}
+
+pub fn nth(file: &[u8], pairs: &[u32], maps: &[u32], psbt: Psbt, m: u64, i: usize) -> Nth
+    ensures { λ r. ⌜ r ≡ nth i (held (now (file .entry)) (now (pairs .entry)) (now (maps .entry)) psbt m) ⌝ }
+{
+    let fit = fit_map(file, pairs, maps, psbt, m);
+    nth_in(pairs, fit, i)
+}
+
+// Its key and its value, as the parts of the file themselves: empty for a refusal.
+pub fn key_part(file: &[u8], pair: Nth) -> &[u8]
+    ensures { λ r. ⌜ now r ≡ keyPart (now (file .entry)) pair ⌝ }
+{
+    match pair {
+        Nth::Refused(_) => &file[..0],
+        Nth::Is(e) => key_in(file, e),
+    }
+}
+
+pub fn value_part(file: &[u8], pair: Nth) -> &[u8]
+    ensures { λ r. ⌜ now r ≡ valuePart (now (file .entry)) pair ⌝ }
+{
+    match pair {
+        Nth::Refused(_) => &file[..0],
+        Nth::Is(e) => value_in(file, e),
+    }
+}
+
+pub fn nth_key<'a>(
+    file: &'a [u8],
+    pairs: &[u32],
+    maps: &[u32],
+    psbt: Psbt,
+    m: u64,
+    i: usize,
+) -> &'a [u8]
+    ensures { λ r. ⌜ now r ≡ keyPart (now (file .entry)) (nth i (held (now (file .entry)) (now (pairs .entry)) (now (maps .entry)) psbt m)) ⌝ }
+{
+    let pair = nth(file, pairs, maps, psbt, m, i);
+    key_part(file, pair)
+}
+
+pub fn nth_value<'a>(
+    file: &'a [u8],
+    pairs: &[u32],
+    maps: &[u32],
+    psbt: Psbt,
+    m: u64,
+    i: usize,
+) -> &'a [u8]
+    ensures { λ r. ⌜ now r ≡ valuePart (now (file .entry)) (nth i (held (now (file .entry)) (now (pairs .entry)) (now (maps .entry)) psbt m)) ⌝ }
+{
+    let pair = nth(file, pairs, maps, psbt, m, i);
+    value_part(file, pair)
+}
