@@ -21,6 +21,7 @@ use Rattle.format.specs.declared.Ruled.the-variants.{Passed, Refused}
 use Rattle.format.proofs.Tests.{pick-by, pick-two, pick-yes, pick-no}
 use Rattle.fields.specs.Fronts.{isCount, bareRuleBy, isBare, ruleBy}
 
+-- a number of w bytes is read off any n of them that are enough
 long-front : (w n : ℕ) (r : List ℕ) → w ≤ n → long w (take n r) ≡ long w r
 unfolding long
 long-front w n r h =
@@ -28,6 +29,7 @@ long-front w n r h =
     (λ q. rw (le-leb w (length (take n r)) (omega (arith, length-take n r, leb-true w (length r) q)), take-take w n r h))
     (λ q. rw (lt-leb w (length (take n r)) (omega (arith, length-take n r, leb-false w (length r) q))))
 
+-- and so is a compact size, off the first nine
 pub size-front : (v : List ℕ) → size (take 9 v) ≡ size v
 unfolding size sizeBy
 size-front [] = refl
@@ -41,7 +43,7 @@ pub rule-whole : (k : ℕ) (key v : List ℕ) → rule k key v ≡ ruleBy k (typ
 unfolding rule bareRule count ruleBy isBare bareRuleBy isCount
 rule-whole k key v = refl
 
--- and so are its first nine bytes
+-- its first nine bytes are enough
 pub rule-front : (k : ℕ) (key v : List ℕ) → rule k key v ≡ ruleBy k (typeOf key) (length (dataOf key)) (length v) (take 9 v)
 unfolding ruleBy bareRuleBy
 rule-front k key v = rule-whole k key v ∙ rw (size-front v)

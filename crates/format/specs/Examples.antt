@@ -16,7 +16,7 @@ use Rattle.format.specs.Reading.{limit, ruled, valued, risen, keyed, ite
 use Rattle.format.specs.Entries.{hasRoom, pairEntryWords, mapEntryWords, putPair, putMap, pairEntries, mapEntries, entryOf, width, keyIn, valueIn, shown}
 use Rattle.format.specs.Parse.{ParseOut, out, cut, parsed}
 use Rattle.format.specs.Tables.{inFile, fit, fitted, heldBy, mapsReported, held, viewOf, view, gatherBy, gather}
-use Rattle.format.specs.Locks.{sizedTo, inOf, askedBy, heights, times, misfitBy, misfits, greatest, heightLock, timeLock, orZero, decideBy, wellFormed, decide, lockOf}
+use Rattle.format.specs.Locks.{sizedTo, inOf, askedBy, along, heights, times, isMisfit, misfitBy, misfits, greatest, heightLock, timeLock, orZero, decideBy, wellFormed, decide, lockOf}
 use Rattle.format.specs.Scripts.{outOf, reportedBy, reported, taproot}
 use Rattle.format.specs.Transaction.{TxOut, txOut, entryFits, scriptsFit, tableFits, setSoFar, setScript, scriptOf, ahead, needs, orFinal, inputThen, inputsThen, needsScript, outputThen, outputsThen, txWith, txBy, transaction, txReported, written, unsignedTx}
 use Rattle.format.specs.declared.PsbtError.the-variants.{InvalidMagic, UnexpectedEof, InvalidCompactSize, DuplicateKey, UnsortedKeys, BadValue, MissingCounts, NotAllowed, MissingOutputScript, InvalidSilentPayment, PairsFull, MapsFull}
@@ -148,7 +148,7 @@ proved =
 
 -- all that a file's reading and its transaction are made of
 unfoldable pub computes : List ℕ → Told
-unfolding numberOf only every le bytesOf signed unsigned long sizeBy size shortest countBy count typeOf dataOf keyOf order isBelow isSame below same valueFits isRow rowRule sizesIn sizes countRule bareRule andThen rule find field present number maybe sizeValue counted psbtOf globalRule modifiable outputBy outputRule outputsRule limit ruled valued risen keyed itemBy item front turn items mapped pairEvents mapEvents mapsEvents unless lastly globalThen events hasRoom pairEntryWords mapEntryWords putPair putMap pairEntries mapEntries entryOf width keyIn valueIn shown cut parsed inFile fit fitted heldBy mapsReported held viewOf view gatherBy gather sizedTo inOf askedBy heights times misfitBy misfits greatest heightLock timeLock orZero decideBy wellFormed decide lockOf outOf reportedBy reported taproot entryFits scriptsFit tableFits setSoFar setScript scriptOf ahead needs orFinal inputThen inputsThen needsScript outputThen outputsThen txWith txBy transaction txReported written unsignedTx toldTx toldBy told
+unfolding numberOf only every le bytesOf signed unsigned long sizeBy size shortest countBy count typeOf dataOf keyOf order isBelow isSame below same valueFits isRow rowRule sizesIn sizes countRule bareRule andThen rule find field present number maybe sizeValue counted psbtOf globalRule modifiable outputBy outputRule outputsRule limit ruled valued risen keyed itemBy item front turn items mapped pairEvents mapEvents mapsEvents unless lastly globalThen events hasRoom pairEntryWords mapEntryWords putPair putMap pairEntries mapEntries entryOf width keyIn valueIn shown cut parsed inFile fit fitted heldBy mapsReported held viewOf view gatherBy gather sizedTo inOf askedBy along heights times isMisfit misfitBy misfits greatest heightLock timeLock orZero decideBy wellFormed decide lockOf outOf reportedBy reported taproot entryFits scriptsFit tableFits setSoFar setScript scriptOf ahead needs orFinal inputThen inputsThen needsScript outputThen outputsThen txWith txBy transaction txReported written unsignedTx toldTx toldBy told
 computes = told
 
 pub P1-to-P13 : map (λ (x : Example). told (x .file)) proved ≡ map (λ (x : Example). x .tells) proved

@@ -1,9 +1,10 @@
 -- The lock time, and what decided it.
 use Prim.Native.Nat.{ℕ, _+_}
-use mathlib.Core.List.{List, [], _∷_}
+use mathlib.Core.Bool.{Bool, true, false, _||_}
+use mathlib.Core.List.{List, [], _∷_, _++_}
 use lib.ListN.{length}
 use lib.Dec.{leb, ltb, eqb}
-use Rattle.format.specs.Tests.{pick}
+use Rattle.format.specs.Tests.{pick, keepIf}
 use Rattle.format.specs.Numbers.{le}
 use Rattle.format.specs.Content.{Pair, Found, absent, found, field}
 use Rattle.format.specs.declared.PsbtError.{PsbtError}
@@ -49,33 +50,36 @@ pub record Asked : Type 0 where
   pub number : ℕ
   pub input : ℕ
 
-unfoldable pub askedBy : Sized → ℕ → List Asked → List Asked
-askedBy missing i l = l
-askedBy misfit i l = l
-askedBy (is v) i l = record { number = le v; input = i } ∷ l
+-- what a field of input number i asks for
+unfoldable pub askedBy : Sized → ℕ → List Asked
+askedBy missing i = []
+askedBy misfit i = []
+askedBy (is v) i = record { number = le v; input = i } ∷ []
+
+-- f of each input and its number, in order; the first has number i
+unfoldable pub along : {A : Type 0} → (In → ℕ → List A) → ℕ → List In → List A
+along f i [] = []
+along f i (x ∷ xs) = f x i ++ along f (i + 1) xs
 
 -- the heights asked for by inputs, the first of which has number i; and the times
 unfoldable pub heights : ℕ → List In → List Asked
-heights i [] = []
-heights i (x ∷ xs) = askedBy (x .height) i (heights (i + 1) xs)
+heights i ins = along (λ x. askedBy (x .height)) i ins
 
 unfoldable pub times : ℕ → List In → List Asked
-times i [] = []
-times i (x ∷ xs) = askedBy (x .time) i (times (i + 1) xs)
+times i ins = along (λ x. askedBy (x .time)) i ins
+
+-- a field of a wrong length
+unfoldable pub isMisfit : Sized → Bool
+isMisfit missing = false
+isMisfit misfit = true
+isMisfit (is v) = false
 
 -- the inputs with a height or a time of a wrong length
-unfoldable pub misfitBy : Sized → Sized → ℕ → List ℕ → List ℕ
-misfitBy misfit t i l = i ∷ l
-misfitBy missing misfit i l = i ∷ l
-misfitBy missing missing i l = l
-misfitBy missing (is w) i l = l
-misfitBy (is v) misfit i l = i ∷ l
-misfitBy (is v) missing i l = l
-misfitBy (is v) (is w) i l = l
+unfoldable pub misfitBy : In → ℕ → List ℕ
+misfitBy x i = keepIf (isMisfit (x .height) || isMisfit (x .time)) i []
 
 unfoldable pub misfits : ℕ → List In → List ℕ
-misfits i [] = []
-misfits i (x ∷ xs) = misfitBy (x .height) (x .time) i (misfits (i + 1) xs)
+misfits i ins = along misfitBy i ins
 
 -- the greatest of a first and further numbers asked for; of equal ones the first
 unfoldable pub greatest : Asked → List Asked → Asked

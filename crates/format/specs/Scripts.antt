@@ -58,7 +58,7 @@ unfoldable pub served : ℕ → List Out → List Assignment → Bool
 served i [] xs = true
 served i (o ∷ os) xs = eqb (length (named i xs)) (pick (present (o .script)) 0 1) && served (i + 1) os xs
 
--- assignments xs they are given: whole records, or a list of numbers that ends inside one
+-- assignments as they are given: whole records, or a list of numbers that ends inside one
 pub data Given : Type 0 where
   whole : List Assignment → Given
   cutShort : Given
@@ -96,11 +96,11 @@ rightFor outs buffer xs = every (allowed (length outs) buffer) xs && served 0 ou
 unfoldable pub settable : State → Bool
 settable t = not (t .set || t .written)
 
--- an answer, and the script table xs it is left
+-- an answer, and the script table as it is left
 pub data SetOut : Type 0 where
   setOut : ScriptsSet → List ℕ → SetOut
 
--- with no outputs nothing counts xs set
+-- with no outputs nothing counts as set
 unfoldable pub afterSet : State → List Out → State
 afterSet t [] = t
 afterSet t (o ∷ os) = record { set = true; written = t .written }

@@ -25,11 +25,14 @@ all-take zero s b = tt
 all-take (suc k) [] b = b
 all-take (suc k) (x ∷ s) b = (b .0, all-take k s (b .1))
 
--- a byte that was read, as a wider number and in a sum
+-- a byte that was read, as itself, as a wider number and in a sum
+pub byte-is : (s : List ℕ) (i : ℕ) → Bytes8 s → Fits w8 (getD s i 0)
+byte-is s i b = b i
+
 pub byte-fits : (s : List ℕ) (i : ℕ) → Bytes8 s → Fits w64 (getD s i 0)
 byte-fits s i b = record { fits = omega (arith, b i) }
 
 pub byte-plus : (s : List ℕ) (i k : ℕ) → k < 2 ^ 63 → Bytes8 s → Fits w64 (k + getD s i 0)
 byte-plus s i k h b = record { fits = omega (arith, b i) }
 
-pub ruleset bytes = (byte-fits, byte-plus)
+pub ruleset bytes = (byte-is, byte-fits, byte-plus)

@@ -1,20 +1,19 @@
--- Laws of reading at a place: one for each way through each call, then what an answer says of the bytes.
-use mathlib.Core.Path.{_≡_, refl, sym, _∙_, ap}
+-- Laws of reading at a place: one for each way through each call.
+use mathlib.Core.Path.{_≡_, sym, _∙_, ap}
 use mathlib.Core.List.{List}
 use Prim.Native.Nat.{ℕ, _+_, _-_, _^_, _≤_, _<_}
 use native.Mathlib.Omega.{arith}
-use borrow.Author.Tests.{le-leb, lt-leb, leb-true}
+use borrow.Author.Tests.{le-leb, lt-leb}
 use lib.Dec.{leb}
-use lib.ListN.{length, take, drop, length-drop, drop-of-length-le}
+use lib.ListN.{length, take, drop, length-drop}
 use mir.Syntax.{w64}
 use mir.Val.{Fits}
-use Rattle.format.specs.Tests.{pick}
 use Rattle.format.specs.Compact.{size}
 use Rattle.format.specs.declared.PsbtError.{PsbtError}
 use Rattle.format.specs.declared.PsbtError.the-variants.{UnexpectedEof}
 use Rattle.format.specs.declared.Size.{Size}
 use Rattle.format.specs.declared.Size.the-variants as Z
-use Rattle.format.proofs.Tests.{pick-by, pick-ap}
+use Rattle.format.proofs.Tests.{pick-ap}
 use Rattle.wire.specs.declared.Cursor.{Cursor}
 use Rattle.wire.specs.declared.Taken.{Taken}
 use Rattle.wire.specs.declared.Taken.the-variants as T
@@ -23,15 +22,12 @@ use Rattle.wire.specs.declared.SizeRead.the-variants as S
 use Rattle.wire.specs.declared.Prefixed.{Prefixed}
 use Rattle.wire.specs.declared.Prefixed.the-variants as P
 use Rattle.wire.specs.Cursors.{cursor, remaining, takeAt, sizeAtBy, sizeAt, prefixedBy, prefixedAt}
-use Rattle.wire.proofs.Sizes.{part-rest, size-none, size-some, size-in}
+use Rattle.wire.proofs.Sizes.{part-rest, size-none}
+use Rattle.wire.proofs.Bounds.{size-in, remaining-is, SizeIs, size-is, size-bad}
 
--- what is left is the length without the place
-pub remaining-is : (s : List ℕ) (p : ℕ) → remaining s p ≡ length s - p
-unfolding remaining
-remaining-is s p = length-drop p s
-
-pub left-some : (s : List ℕ) (p : ℕ) → p ≤ length s → length s - p ≡ remaining s p
-left-some s p h = sym (remaining-is s p)
+-- what is left at a place
+pub left-some : (s : List ℕ) (p : ℕ) → length s - p ≡ remaining s p
+left-some s p = sym (remaining-is s p)
 
 pub left-none : (s : List ℕ) (p : ℕ) → length s < p → 0 ≡ remaining s p
 left-none s p h = omega (arith, remaining-is s p)
@@ -76,35 +72,6 @@ module _ (s : List ℕ) (p : ℕ) (o : Size) (is : o ≡ size (take (length s - 
 
 pub ruleset ats = (at-none, at-bad, at-read, at-fits)
 
--- what a compact size that was read at a place is
-pub record SizeIs (s : List ℕ) (p n : ℕ) (c : Cursor) : Type 0 where
-  pub used : ℕ
-  pub is : size (drop p s) ≡ Z.Read n used
-  pub next : c ≡ cursor (p + used)
-
-module _ (s : List ℕ) (p : ℕ) (o : SizeRead) (at : o ≡ sizeAt s p) where
-  pub size-is : (n : ℕ) (c : Cursor) → o ≡ S.Read n c → SizeIs s p n c
-  unfolding sizeAt sizeAtBy
-  size-is n c f = by (size (drop p s)) refl
-    where
-      by : (z : Size) → size (drop p s) ≡ z → SizeIs s p n c
-      by (Z.Bad x) q = let g : S.Bad x ≡ S.Read n c = sym (ap (sizeAtBy p) q) ∙ sym at ∙ f in
-          let w : _≡_ {A = ℕ} 0 1 = cc in absurd (omega arith)
-      by (Z.Read v u) q = let g : S.Read v (cursor (p + u)) ≡ S.Read n c = sym (ap (sizeAtBy p) q) ∙ sym at ∙ f in
-          let x : v ≡ n = cc in
-          let y : cursor (p + u) ≡ c = cc in
-          record { used = u; is = rw x at q; next = sym y }
-
-  pub size-bad : (e : PsbtError) → o ≡ S.Bad e → size (drop p s) ≡ Z.Bad e
-  unfolding sizeAt sizeAtBy
-  size-bad e f = by (size (drop p s)) refl
-    where
-      by : (z : Size) → size (drop p s) ≡ z → size (drop p s) ≡ Z.Bad e
-      by (Z.Bad x) q = let g : S.Bad x ≡ S.Bad e = sym (ap (sizeAtBy p) q) ∙ sym at ∙ f in
-          let y : x ≡ e = cc in rw y at q
-      by (Z.Read v u) q = let g : S.Read v (cursor (p + u)) ≡ S.Bad e = sym (ap (sizeAtBy p) q) ∙ sym at ∙ f in
-          let w : _≡_ {A = ℕ} 0 1 = cc in absurd (omega arith)
-
 -- bytes behind their length, by the length and by what was taken
 prefixedOf : ℕ → Taken → Prefixed
 prefixedOf n (T.Bad e) = P.Bad e
@@ -124,7 +91,7 @@ module _ (s : List ℕ) (p : ℕ) (o : SizeRead) (at : o ≡ sizeAt s p) where
     unfolding prefixedAt
     taken-by z e =
         let i : SizeIs s p n c = size-is s p o at n c f in
-        ap (prefixedOf n) (sym e ∙ is ∙ ap (λ (d : Cursor). takeAt s (d .pos) n) (i .next)) ∙ prefixed-taken s p n (i .used) ∙ sym (ap (prefixedBy s p) (i .is))
+        ap (prefixedOf n) (sym e ∙ is ∙ ap (λ (q : ℕ). takeAt s q n) (i .next)) ∙ prefixed-taken s p n (i .used) ∙ sym (ap (prefixedBy s p) (i .is))
 
     pub no-bytes : (e : PsbtError) → t ≡ T.Bad e → P.Bad e ≡ prefixedAt s p
     unfolding prefixedOf

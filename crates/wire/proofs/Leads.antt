@@ -1,12 +1,12 @@
 -- Laws of little-endian numbers: read from the back, byte by byte, at every width; and of the number at the front.
-use mathlib.Core.Path.{_≡_, refl, sym, _∙_, ap}
-use mathlib.Core.List.{List, [], _∷_}
-use Prim.Native.Nat.{ℕ, zero, suc, _+_, _*_, _-_, _^_, _≤_, _<_}
-use native.Mathlib.Nat.{lt-of-lt-of-le, pow-le-pow-right}
+use mathlib.Core.Path.{_≡_, sym, _∙_, ap}
+use mathlib.Core.List.{List}
+use Prim.Native.Nat.{ℕ, suc, _+_, _*_, _-_, _^_, _≤_, _<_}
+use native.Mathlib.Nat.{lt-of-lt-of-le, pow-le-pow-right, sub-zero}
 use native.Mathlib.Omega.{arith}
 use lib.ListN.{length, take, drop, getD, length-take, length-drop}
 use lib.Seq.{drop-cons, drop-length, take-all}
-use mir.Syntax.{Width, w64}
+use mir.Syntax.{Width, w8, w64}
 use mir.Val.{Fits, bits}
 use Rattle.format.specs.Numbers.{le}
 use Rattle.format.proofs.Numbers.{All, Byte, le-below}
@@ -21,31 +21,33 @@ le-at : (s : List ℕ) (i : ℕ) → i < length s → le (drop i s) ≡ getD s i
 unfolding le
 le-at s i h = rw (drop-cons s i 0)
 
--- of at most eight bytes, those behind the first leave room for one more
-le-room : (s : List ℕ) (i : ℕ) → length s ≤ 8 → 0 < i → Bytes8 s → le (drop i s) < 256 ^ 7
-le-room s i h p b = le-most 7 (drop i s) (rw length-drop (omega arith)) (all-drop i s (bytes-all s b))
+-- the number that the last i of n bytes spell
+module _ (s : List ℕ) (n i v : ℕ) (len : n ≡ length s) (is : v ≡ le (drop (n - i) s)) where
+  pub le-all : i ≤ n → n ≤ i → v ≡ le s
+  le-all h k = let q : n - i ≡ 0 = omega arith in rw q at is
 
-pub le-none : (s : List ℕ) → 0 ≡ le (drop (length s) s)
+  module _ (h : i < n) where
+    -- one byte more, in front of them
+    pub le-more : (b : ℕ) → b ≡ getD s (n - (i + 1)) 0 → v * 256 + b ≡ le (drop (n - (i + 1)) s)
+    le-more b e =
+        let q : n - i ≡ suc (n - (i + 1)) = omega arith in
+        let f : v ≡ le (drop (suc (n - (i + 1))) s) = rw q at is in
+        omega (arith, le-at s (n - (i + 1)) (omega arith))
+
+    -- of at most eight bytes there is room for it
+    module _ (most : length s ≤ 8) (bytes : Bytes8 s) where
+      le-room : v < 256 ^ 7
+      le-room = rw is (le-most 7 (drop (n - i) s) (rw length-drop (omega arith)) (all-drop (n - i) s (bytes-all s bytes)))
+
+      pub le-mul : Fits w64 (v * 256)
+      le-mul = record { fits = omega (arith, le-room) }
+
+      pub le-add : (b x : ℕ) → b ≡ x → Fits w8 x → Fits w64 (v * 256 + b)
+      le-add b x e f = record { fits = omega (arith, le-room) }
+
+pub le-none : (s : List ℕ) (n : ℕ) → n ≡ length s → 0 ≡ le (drop (n - 0) s)
 unfolding le
-le-none s = rw drop-length
-
--- one byte more, at the front
-pub le-more : (s : List ℕ) (i v b : ℕ) → 0 < i → i ≤ length s → v ≡ le (drop i s) → b ≡ getD s (i - 1) 0 → v * 256 + b ≡ le (drop (i - 1) s)
-le-more s zero v b p h e f = absurd (omega arith)
-le-more s (suc i) v b p h e f =
-    let q : suc i - 1 ≡ i = omega arith in
-    let g : b ≡ getD s i 0 = rw q at f in
-    rw q (omega (arith, le-at s i h))
-
-pub le-all : (s : List ℕ) (i v : ℕ) → i ≤ 0 → v ≡ le (drop i s) → v ≡ le s
-le-all s zero v h e = e
-le-all s (suc i) v h e = absurd (omega arith)
-
-pub le-mul : (s : List ℕ) (i v : ℕ) → length s ≤ 8 → 0 < i → v ≡ le (drop i s) → Bytes8 s → Fits w64 (v * 256)
-le-mul s i v h p e b = record { fits = omega (arith, le-room s i h p b) }
-
-pub le-add : (s : List ℕ) (i v w : ℕ) → length s ≤ 8 → 0 < i → v ≡ le (drop i s) → w ≡ getD s (i - 1) 0 → Bytes8 s → Fits w64 (v * 256 + w)
-le-add s i v w h p e f b = record { fits = omega (arith, le-room s i h p b, b (i - 1)) }
+le-none s n e = rw (e, sub-zero, drop-length)
 
 pub ruleset les = (le-none, le-all, le-more, le-mul, le-add)
 
@@ -60,9 +62,16 @@ pub lead-front : (w r : ℕ) (s : List ℕ) → r ≡ le (take w s) → r ≡ le
 unfolding lead
 lead-front w r s e = e
 
-pub lead-short : (w r : ℕ) (s : List ℕ) → length s < w → r ≡ le s → r ≡ lead w s
+-- no more bytes than the width are all of them
+lead-all : (w : ℕ) (s : List ℕ) → length s ≤ w → lead w s ≡ le s
 unfolding lead
-lead-short w r s h e = rw (take-all w s (omega arith)) e
+lead-all w s h = ap le (take-all w s h)
+
+pub lead-short : (w r : ℕ) (s : List ℕ) → length s < w → r ≡ le s → r ≡ lead w s
+lead-short w r s h e = e ∙ sym (lead-all w s (omega arith))
+
+pub lead-whole : (w r : ℕ) (s : List ℕ) → length s ≤ w → r ≡ lead w s → r ≡ le s
+lead-whole w r s h e = e ∙ lead-all w s h
 
 -- a number of w bytes is below 256 ^ w, so it fits as many bits
 pub lead-below : (s : List ℕ) (w : ℕ) → Bytes8 s → lead w s < 256 ^ w

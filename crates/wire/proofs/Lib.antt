@@ -1,4 +1,5 @@
 pub mod Bytes
 pub mod Leads
 pub mod Sizes
+pub mod Bounds
 pub mod Cursors

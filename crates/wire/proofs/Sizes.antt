@@ -1,25 +1,20 @@
--- Laws of compact sizes: one for each way through the reading of one, then what callers need, and that nine bytes decide.
+-- Laws of compact sizes: one for each way through the reading of one and through a count; and nine bytes decide.
 use mathlib.Core.Path.{_≡_, refl, sym, _∙_, ap}
 use mathlib.Core.List.{List, [], _∷_}
 use mathlib.Core.Bool.{Bool, true, false}
-use Prim.Native.Nat.{ℕ, suc, _+_, _-_, _^_, _≤_, _<_, min}
+use Prim.Native.Nat.{ℕ, suc, _-_, _≤_, _<_, min}
 use native.Mathlib.Omega.{arith}
-use borrow.Author.Tests.{lt-ltb, le-ltb, eq-eqb, ne-eqb, le-leb, lt-leb, leb-true, leb-false}
-use lib.Dec.{leb, ltb, eqb, leb·suc-suc}
+use borrow.Author.Tests.{lt-ltb, eq-eqb, ne-eqb, le-leb, lt-leb, leb-true, leb-false}
+use lib.Dec.{leb, leb·suc-suc}
 use lib.ListN.{length, take, drop, getD, length-take, length-drop}
 use lib.Seq.{take-all, take-take}
-use Rattle.format.specs.Numbers.{le}
 use Rattle.format.specs.Compact.{long, sizeBy, size, countBy, count}
 use Rattle.format.specs.declared.PsbtError.{PsbtError}
 use Rattle.format.specs.declared.PsbtError.the-variants.{UnexpectedEof, InvalidCompactSize}
 use Rattle.format.specs.declared.Size.{Size}
 use Rattle.format.specs.declared.Size.the-variants.{Bad, Read}
-use Rattle.format.proofs.Tests.{pick-by}
-use Rattle.format.proofs.Numbers.{All, Byte}
-use Rattle.format.proofs.Compact.{size-own}
 use Rattle.wire.specs.Leads.{lead, spelled}
-use Rattle.wire.proofs.Bytes.{Bytes8, bytes-all, all-take}
-use Rattle.wire.proofs.Leads.{le-most, front-most}
+use Rattle.wire.proofs.Bytes.{Bytes8}
 
 -- a part to the end, as the rule for `&s[a..]` has it
 pub part-rest : (a : ℕ) (s : List ℕ) → take (length s - a) (drop a s) ≡ drop a s
@@ -97,42 +92,6 @@ module _ (n : ℕ) (s : List ℕ) (o : Size) (is : o ≡ size s) where
     count-over h = rw (ne-eqb n u h) at (counts (Read v u) q)
 
 pub ruleset counts-by = (count-bad, count-left, count-whole, count-over)
-
--- what callers need of a compact size that was read: it takes a byte, no more than there are, and is a number of 64 bits
-module _ (s : List ℕ) (z : Size) (v u : ℕ) (is : z ≡ size s) (e : z ≡ Read v u) where
-  pub size-some : 0 < u
-  size-some = size-own s v u (sym is ∙ e) .0
-
-  pub size-in : u ≤ length s
-  size-in = size-own s v u (sym is ∙ e) .1
-
-abbrev Small : Size → Type 0
-Small o = (v u : ℕ) → o ≡ Read v u → v < 2 ^ 64
-
-bad-small : (e : PsbtError) → Small (Bad e)
-bad-small e v u q = let z : _≡_ {A = ℕ} 0 1 = cc in absurd (omega arith)
-
-read-small : (v u : ℕ) → v < 2 ^ 64 → Small (Read v u)
-read-small v u h w x q = let f : v ≡ w = cc in omega arith
-
-long-small : (w : ℕ) (r : List ℕ) → w ≤ 8 → All Byte r → Small (long w r)
-unfolding long
-long-small w r h b =
-    pick-by Small (leb w (length r)) _ _
-    (λ q. read-small _ _ (le-most 8 (take w r) (front-most w 8 r h) (all-take w r b)))
-    (λ q. bad-small UnexpectedEof)
-
-small : (s : List ℕ) → All Byte s → Small (size s)
-unfolding size sizeBy
-small [] b = bad-small UnexpectedEof
-small (x ∷ r) b =
-    let l : x < 256 = b .0 in
-    pick-by Small (ltb x 0xfd) _ _ (λ q. read-small x 1 (omega arith))
-    (λ q. pick-by Small (eqb x 0xfd) _ _ (λ t. long-small 2 r (omega arith) (b .1))
-    (λ t. pick-by Small (eqb x 0xfe) _ _ (λ k. long-small 4 r (omega arith) (b .1)) (λ k. long-small 8 r (omega arith) (b .1))))
-
-pub size-value : (s : List ℕ) (z : Size) (v u : ℕ) → z ≡ size s → z ≡ Read v u → Bytes8 s → v < 2 ^ 64
-size-value s z v u is e b = small s (bytes-all s b) v u (sym is ∙ e)
 
 -- the first nine bytes decide
 front-leb : (w n k : ℕ) → w ≤ k → leb w (min k n) ≡ leb w n

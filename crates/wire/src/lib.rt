@@ -20,11 +20,12 @@ fn le(s: &[u8]) -> u64
     requires { ⌜ length (now s) ≤ 8 ⌝ }
     ensures { λ r. ⌜ r ≡ le (now (s .entry)) ⌝ }
 {
+    let n = s.len();
     let mut v: u64 = 0;
-    let mut i: usize = s.len();
-    while 0 < i {
-        i = i - 1;
-        v = v * 256 + wide(s[i]);
+    let mut i: usize = 0;
+    while i < n {
+        i = i + 1;
+        v = v * 256 + wide(s[n - i]);
     }
     v
 }
@@ -37,6 +38,7 @@ fn lead(s: &[u8], w: usize) -> u64
     if w <= s.len() { le(&s[..w]) } else { le(s) }
 }
 
+// The same at the widths in use.
 pub fn u16_from_le_bytes(s: &[u8]) -> u16
     ensures { λ r. ⌜ r ≡ lead 2 (now (s .entry)) ⌝ }
 {
@@ -53,28 +55,6 @@ pub fn u64_from_le_bytes(s: &[u8]) -> u64
     ensures { λ r. ⌜ r ≡ lead 8 (now (s .entry)) ⌝ }
 {
     lead(s, 8)
-}
-
-// What taking some bytes at a cursor finds: where they stand, and the cursor behind them.
-pub enum Taken {
-    Bad(PsbtError),
-    Part { start: usize, next: Cursor },
-}
-
-// What reading a compact size at a cursor finds: its value, and the cursor behind it.
-pub enum SizeRead {
-    Bad(PsbtError),
-    Read { value: u64, next: Cursor },
-}
-
-// What reading bytes behind their length finds: where they stand, how many they are, and the cursor behind them.
-pub enum Prefixed {
-    Bad(PsbtError),
-    Part {
-        start: usize,
-        len: usize,
-        next: Cursor,
-    },
 }
 
 // A number that `used` of `len` bytes spell: the refusal where there are fewer.
@@ -109,7 +89,97 @@ pub fn read_size(s: &[u8]) -> Size
     }
 }
 
-// A count field's value of `len` bytes, judged by its first nine.
+// A place in a buffer.
+pub struct Cursor {
+    pub pos: usize,
+}
+
+// What taking some bytes at a cursor finds: where they stand, and the cursor behind them.
+pub enum Taken {
+    Bad(PsbtError),
+    Part { start: usize, next: Cursor },
+}
+
+// What reading a compact size at a cursor finds: its value, and the cursor behind it.
+pub enum SizeRead {
+    Bad(PsbtError),
+    Read { value: u64, next: Cursor },
+}
+
+// What reading bytes behind their length finds: where they stand, how many they are, and the cursor behind them.
+pub enum Prefixed {
+    Bad(PsbtError),
+    Part {
+        start: usize,
+        len: usize,
+        next: Cursor,
+    },
+}
+
+impl Cursor {
+    pub fn new(pos: usize) -> Self
+        ensures { λ r. ⌜ r ≡ cursor pos ⌝ }
+    {
+        Self { pos }
+    }
+
+    // How many bytes are left: past the end none.
+    pub fn remaining(self, buf: &[u8]) -> usize
+        ensures { λ r. ⌜ r ≡ remaining (now (buf .entry)) (self .pos) ⌝ }
+    {
+        let pos = self.pos;
+        if pos <= buf.len() { buf.len() - pos } else { 0 }
+    }
+
+    // The next `n` bytes.
+    pub fn take(self, buf: &[u8], n: usize) -> Taken
+        ensures { λ r. ⌜ r ≡ takeAt (now (buf .entry)) (self .pos) n ⌝ }
+    {
+        let start = self.pos;
+        if self.remaining(buf) < n {
+            return Taken::Bad(PsbtError::UnexpectedEof);
+        }
+        Taken::Part {
+            start,
+            next: Cursor::new(start + n),
+        }
+    }
+
+    // The compact size that stands there.
+    pub fn read_compact_size(self, buf: &[u8]) -> SizeRead
+        ensures { λ r. ⌜ r ≡ sizeAt (now (buf .entry)) (self .pos) ⌝ }
+    {
+        let pos = self.pos;
+        if buf.len() < pos {
+            return SizeRead::Bad(PsbtError::UnexpectedEof);
+        }
+        match read_size(&buf[pos..]) {
+            Size::Bad(e) => SizeRead::Bad(e),
+            Size::Read { value, used } => SizeRead::Read {
+                value,
+                next: Cursor::new(pos + used),
+            },
+        }
+    }
+
+    // The bytes that stand there behind their length, a compact size.
+    pub fn read_len_prefixed(self, buf: &[u8]) -> Prefixed
+        ensures { λ r. ⌜ r ≡ prefixedAt (now (buf .entry)) (self .pos) ⌝ }
+    {
+        match self.read_compact_size(buf) {
+            SizeRead::Bad(e) => Prefixed::Bad(e),
+            SizeRead::Read { value, next } => {
+                let len = value as usize;
+                match next.take(buf, len) {
+                    Taken::Bad(e) => Prefixed::Bad(e),
+                    Taken::Part { start, next } => Prefixed::Part { start, len, next },
+                }
+            }
+        }
+    }
+}
+
+// What a count field's value of `len` bytes says, judged by its front: its first nine bytes are enough.
 pub fn count_of(len: usize, front: &[u8]) -> Size
     ensures { λ r. ⌜ r ≡ countBy len (size (now (front .entry))) ⌝ }
 {
@@ -131,75 +201,9 @@ pub fn count_of(len: usize, front: &[u8]) -> Size
     }
 }
 
-// A count field's value: one compact size, whole.
+// What a count field's value says: one compact size, whole.
 pub fn u64_from_compact_size(data: &[u8]) -> Size
     ensures { λ r. ⌜ r ≡ count (now («data» .entry)) ⌝ }
 {
     count_of(data.len(), data)
-}
-
-// A place in a buffer.
-pub struct Cursor {
-    pub pos: usize,
-}
-
-impl Cursor {
-    pub fn new(pos: usize) -> Self
-        ensures { λ r. ⌜ r ≡ cursor pos ⌝ }
-    {
-        Self { pos }
-    }
-
-    // How many bytes are left: past the end none.
-    pub fn remaining(self, buf: &[u8]) -> usize
-        ensures { λ r. ⌜ r ≡ remaining (now (buf .entry)) (self .pos) ⌝ }
-    {
-        let pos = self.pos;
-        if pos <= buf.len() { buf.len() - pos } else { 0 }
-    }
-
-    pub fn take(self, buf: &[u8], n: usize) -> Taken
-        ensures { λ r. ⌜ r ≡ takeAt (now (buf .entry)) (self .pos) n ⌝ }
-    {
-        let start = self.pos;
-        if self.remaining(buf) < n {
-            return Taken::Bad(PsbtError::UnexpectedEof);
-        }
-        Taken::Part {
-            start,
-            next: Cursor::new(start + n),
-        }
-    }
-
-    pub fn read_compact_size(self, buf: &[u8]) -> SizeRead
-        ensures { λ r. ⌜ r ≡ sizeAt (now (buf .entry)) (self .pos) ⌝ }
-    {
-        let pos = self.pos;
-        if buf.len() < pos {
-            return SizeRead::Bad(PsbtError::UnexpectedEof);
-        }
-        match read_size(&buf[pos..]) {
-            Size::Bad(e) => SizeRead::Bad(e),
-            Size::Read { value, used } => SizeRead::Read {
-                value,
-                next: Cursor::new(pos + used),
-            },
-        }
-    }
-
-    // The bytes behind their length.
-    pub fn read_len_prefixed(self, buf: &[u8]) -> Prefixed
-        ensures { λ r. ⌜ r ≡ prefixedAt (now (buf .entry)) (self .pos) ⌝ }
-    {
-        match self.read_compact_size(buf) {
-            SizeRead::Bad(e) => Prefixed::Bad(e),
-            SizeRead::Read { value, next } => {
-                let len = value as usize;
-                match next.take(buf, len) {
-                    Taken::Bad(e) => Prefixed::Bad(e),
-                    Taken::Part { start, next } => Prefixed::Part { start, len, next },
-                }
-            }
-        }
-    }
 }

@@ -1,0 +1,5 @@
+pub mod Walks
+pub mod Decisions
+pub mod Ends
+pub mod Honours
+pub mod Calls

@@ -1,0 +1,1 @@
+// Laws of the lock time: it honours what the inputs ask. Nothing here runs.

@@ -1,0 +1,11 @@
+pub mod Items
+pub mod Files
+pub mod Orderly
+pub mod Rooms
+pub mod Parsed
+pub mod Shown
+pub mod Given
+pub mod Turns
+pub mod Notes
+pub mod Listings
+pub mod Found

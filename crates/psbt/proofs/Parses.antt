@@ -1,0 +1,85 @@
+-- A parse is its length, its magic and its maps, cut by the room; and any two outcomes that meet its promise agree.
+use Prim.Native.Nat.{ℕ, _≤_, _<_}
+use mathlib.Core.Path.{_≡_, refl, sym, _∙_, ap}
+use mathlib.Core.Bool.{Bool, true, false, not}
+use mathlib.Core.List.{List, []}
+use native.Mathlib.Omega.{arith}
+use borrow.Author.Tests.{le-leb, lt-leb, not-true, not-false}
+use lib.ListN.{length, take, drop, length-take}
+use lib.Seq.{take-all}
+use Rattle.format.specs.Keys.{order, isSame, same}
+use Rattle.format.specs.Content.{magic}
+use Rattle.format.specs.Reading.{limit, events}
+use Rattle.format.specs.Parse.{ParseOut, out, cut, parsed}
+use Rattle.format.specs.Told.{ToldParse, toldWith, toldParsed, toldParse}
+use Rattle.format.specs.declared.PsbtError.the-variants.{InvalidMagic, TooLong}
+use Rattle.format.specs.declared.Order.{Order}
+use Rattle.format.specs.declared.Order.the-variants.{Below, Same, Above}
+use Rattle.format.specs.declared.Parsed.{Parsed}
+use Rattle.format.specs.declared.Parsed.the-variants as A
+use Rattle.format.proofs.Tests.{no-by}
+use Rattle.format.proofs.Keys.{same-is}
+use Rattle.format.proofs.Told.{parse-out-one}
+use Rattle.psbt.specs.Leans.{lean, cutLean, mapsRead}
+use Rattle.psbt.specs.Steps.{InLimit}
+use Rattle.psbt.proofs.Leans.{cut-lean, maps-walked}
+
+-- the magic
+pub magic-short : (F : List ℕ) → length F < 5 → false ≡ same (take 5 F) magic
+magic-short F h =
+    sym (no-by (same (take 5 F) magic) (λ q. let e : length (take 5 F) ≡ 5 = ap length (same-is (take 5 F) magic q) in
+    let f : length (take 5 F) ≡ length F = ap length (take-all 5 F (omega arith)) in omega arith))
+
+module _ (F : List ℕ) (o : Order) (is : o ≡ order (take 5 F) magic) where
+  pub magic-below : o ≡ Below → false ≡ same (take 5 F) magic
+  unfolding same isSame
+  magic-below h = ap isSame (sym (sym is ∙ h))
+
+  pub magic-same : o ≡ Same → true ≡ same (take 5 F) magic
+  unfolding same isSame
+  magic-same h = ap isSame (sym (sym is ∙ h))
+
+  pub magic-above : o ≡ Above → false ≡ same (take 5 F) magic
+  unfolding same isSame
+  magic-above h = ap isSame (sym (sym is ∙ h))
+
+pub ruleset magics = (magic-short, magic-below, magic-same, magic-above)
+
+-- the ways through a parse
+tell : (r : Parsed) (P M : List ℕ) (o : ParseOut) → out r P M ≡ o → toldWith (toldParsed r) P M ≡ toldParse o
+unfolding toldParse
+tell r P M o e = ap toldParse e
+
+module _ (F P M : List ℕ) where
+  pub too-long : 1_048_576 < length F → toldWith (toldParsed (A.Refused TooLong 0 0)) P M ≡ toldParse (parsed F P M)
+  unfolding parsed events limit cut
+  too-long h = tell _ P M _ (sym (rw (lt-leb (length F) 1_048_576 h)))
+
+  module _ (l : length F ≤ 1_048_576) (b : Bool) (e : b ≡ same (take 5 F) magic) where
+    pub no-magic : not b ≡ true → toldWith (toldParsed (A.Refused InvalidMagic 0 0)) P M ≡ toldParse (parsed F P M)
+    unfolding parsed events limit cut
+    no-magic h = tell _ P M _ (sym (rw (le-leb (length F) 1_048_576 l, sym e ∙ not-true b h)))
+
+    pub in-limit : not b ≡ false → InLimit (length F)
+    unfolding limit
+    in-limit h = record { magic = long; short = l }
+      where
+        long : 5 ≤ length F
+        long =
+            let g : length (take 5 F) ≡ 5 = ap length (same-is (take 5 F) magic (sym e ∙ not-false b h)) in
+            omega (arith, length-take 5 F)
+
+    pub maps-told : not b ≡ false → (r : Parsed) (P′ M′ : List ℕ) → out r P′ M′ ≡ mapsRead F P M → toldWith (toldParsed r) P′ M′ ≡ toldParse (parsed F P M)
+    unfolding parsed events limit mapsRead lean
+    maps-told h r P′ M′ q =
+        tell r P′ M′ _ (q ∙ sym (rw (le-leb (length F) 1_048_576 l, sym e ∙ not-false b h) (cut-lean 5 0 0 0 P M _ ∙ ap (λ x. cutLean 5 0 0 0 P M (Rattle.psbt.specs.Leans.begins x)) (maps-walked (drop 5 F)))))
+
+pub ruleset parses = (too-long, no-magic, in-limit, maps-told)
+
+-- one outcome
+pub one-parse : (F P M : List ℕ) (r₁ r₂ : Parsed) (P₁ P₂ M₁ M₂ : List ℕ) → toldWith (toldParsed r₁) P₁ M₁ ≡ toldParse (parsed F P M) → toldWith (toldParsed r₂) P₂ M₂ ≡ toldParse (parsed F P M)
+    → (r₁ ≡ r₂) × (P₁ ≡ P₂) × (M₁ ≡ M₂)
+unfolding toldParse
+one-parse F P M r₁ r₂ P₁ P₂ M₁ M₂ a b =
+    let e : out r₁ P₁ M₁ ≡ out r₂ P₂ M₂ = parse-out-one (out r₁ P₁ M₁) (out r₂ P₂ M₂) (a ∙ sym b) in
+    ((cc), (cc), (cc))

@@ -1,0 +1,33 @@
+-- A number of 32 bits read as a signed one: below the middle itself, above it counted down from the top.
+use mathlib.Core.Path.{_≡_, refl, sym, _∙_, ap, subst}
+use Prim.Native.Nat.{ℕ, suc, _+_, _-_, _^_, _≤_, _<_}
+use native.Mathlib.Omega.{arith}
+use borrow.Author.Tests.{lt-ltb, le-ltb}
+use lib.IntN.{ℤ, pos, negsuc, _+ℤ_}
+use mir.Syntax.{w32}
+use mir.Val.{Fits, SFits, toZ, ofZ}
+use mir.Facts.{toZ-pos, toZ-ofZ}
+use Rattle.format.specs.Numbers.{signed}
+
+module _ (x : ℕ) where
+  pub sign-low : toZ w32 x ≡ signed x
+  unfolding signed
+  sign-low = refl
+
+  module _ (h : 2147483648 ≤ x) (f : Fits w32 x) where
+    sum : toZ w32 (x - 2147483648) +ℤ negsuc 2147483647 ≡ negsuc (4294967295 - x)
+    sum =
+        let low : x - 2147483648 < 2147483648 = omega arith in
+        let e : 2147483648 - suc (x - 2147483648) ≡ 4294967295 - x = omega arith in
+        ap (λ (z : ℤ). z +ℤ negsuc 2147483647) (toZ-pos w32 low) ∙ rw (lt-ltb (x - 2147483648) 2147483648 low) (ap negsuc e)
+
+    pub sign-fits : SFits w32 (toZ w32 (x - 2147483648) +ℤ negsuc 2147483647)
+    sign-fits = subst (λ (z : ℤ). SFits w32 z) (sym sum) (record { sfits = omega arith })
+
+    pub sign-high : toZ w32 (ofZ w32 (toZ w32 (x - 2147483648) +ℤ negsuc 2147483647)) ≡ signed x
+    unfolding signed
+    sign-high =
+        let e : 4294967295 - x ≡ 4294967296 - suc x = omega arith in
+        toZ-ofZ sign-fits ∙ sum ∙ ap negsuc e ∙ sym (rw (le-ltb x 2147483648 h))
+
+pub ruleset signs = (sign-low, sign-fits, sign-high)

@@ -1,0 +1,22 @@
+-- `psbt::close_global` ends the global map.
+use borrow.Author.Needs.{needs}
+use Rattle.psbt.proofs.Ends.{closeGlobals}
+use Rattle.psbt.proofs.close_global.Statement.{statement}
+use Rattle.psbt.proofs.close_global.Tie as tie
+use Rattle.psbt.proofs.close_global.Reads as reads
+use Rattle.psbt.proofs.close_global.Lts as lts
+use Rattle.psbt.proofs.check_globals.Reads as check-globals-reads
+use Rattle.psbt.proofs.count_of.Reads as count-of-reads
+
+-- needs: needs, closeGlobals
+pub close-global-spec : {M : Type 1} → statement M
+close-global-spec =
+    tie.close
+    (tie.spec
+    (λ c κs. search (needs, closeGlobals))
+    (λ c. search (needs, closeGlobals))
+    (λ c. search (needs, closeGlobals))
+    (λ c κs. search (needs, closeGlobals))
+    (λ c κs. search (needs, closeGlobals))
+    (λ c. search (needs, closeGlobals))
+    (λ c. search (needs, closeGlobals)))

@@ -1,0 +1,22 @@
+-- `psbt::note_global` notes each global field.
+use borrow.Author.Needs.{needs}
+use Rattle.psbt.proofs.Parts.{note-fields}
+use Rattle.psbt.proofs.note_global.Statement.{statement}
+use Rattle.psbt.proofs.note_global.Tie as tie
+use Rattle.psbt.proofs.note_global.Reads as reads
+use Rattle.psbt.proofs.note_global.Lts as lts
+use Rattle.psbt.proofs.noted.Reads as noted-reads
+use Rattle.psbt.proofs.noted_count.Reads as noted-count-reads
+
+-- needs: needs, note-fields
+pub note-global-spec : {M : Type 1} → statement M
+note-global-spec =
+    tie.close
+    (tie.spec
+    (λ c κs. search (needs, note-fields))
+    (λ c κs. search (needs, note-fields))
+    (λ c κs. search (needs, note-fields))
+    (λ c κs. search (needs, note-fields))
+    (λ c κs. search (needs, note-fields))
+    (λ c κs. search (needs, note-fields))
+    (λ c. search (needs, note-fields)))

@@ -1,0 +1,231 @@
+-- `psbt::read_maps` is the definition's reading cut by the room: `Loops.antt` has the invariants, and what holds after each turn and at each way out.
+use borrow.Author.Needs.{needs}
+use Prim.Native.Nat.{_-_}
+use lib.ListN.{length}
+use Rattle.psbt.proofs.Loops.{AtMaps, InMap, loops, one-key, one-value, one-writes, one-more, exit-22, map-writes, exit-after, exit-done, maps-next}
+use Rattle.psbt.proofs.read_maps.Statement.{statement}
+use Rattle.psbt.proofs.read_maps.Tie as tie
+use Rattle.psbt.proofs.read_maps.Reads as reads
+use Rattle.psbt.proofs.read_maps.Lts as lts
+use Rattle.entries.proofs.has_map_room.Reads as has-map-room-reads
+use Rattle.entries.proofs.has_pair_room.Reads as has-pair-room-reads
+use Rattle.entries.proofs.write_map.Reads as write-map-reads
+use Rattle.entries.proofs.write_pair.Reads as write-pair-reads
+use Rattle.psbt.proofs.after_map.Reads as after-map-reads
+use Rattle.psbt.proofs.first_map.Reads as first-map-reads
+use Rattle.psbt.proofs.step_at.Reads as step-at-reads
+
+abbrev Inv-loop : tie.InvT-loop
+Inv-loop file pairs₀ maps w₀ at₀ p₀ m first la₀ le₀ pairs w at p la le = InMap file pairs₀ maps w₀ at₀ p₀ m first la₀ le₀ pairs w at p la le
+
+abbrev μ-loop : tie.MeasureT-loop
+μ-loop file pairs₀ maps w₀ at₀ p₀ m first la₀ le₀ pairs w at p la le = length file - at
+
+abbrev Inv-maps : tie.InvT-maps
+Inv-maps file pairs₀ maps₀ w₀ at₀ p₀ m₀ pairs maps w at p m = AtMaps file pairs₀ maps₀ pairs maps w at p m
+
+abbrev μ-maps : tie.MeasureT-maps
+μ-maps file pairs₀ maps₀ w₀ at₀ p₀ m₀ pairs maps w at p m = length file - at
+
+write-pair-requires : tie.Need-write-pair-requires Inv-loop μ-loop Inv-maps μ-maps
+write-pair-requires c κs =
+    search (
+      one-writes,
+      c .before .if2 .left,
+      c .before .before .has-pair-room .ensures,
+      c .before .before .before .before .before .x3 .given .1,
+      c .before .before .before .before .before .before .before .step-at .ensures,
+      c .before .before .before .before .before .before .before .before .before .before .loop .inv,
+      c .before .before .before .before .before .before .before .before .before .before .before .if1 .left,
+      c .before .before .before .before .before .before .before .before .before .before .before .before .has-map-room .ensures,
+      c .before .before .before .before .before .before .before .before .before .before .before .before .before .before .maps .inv,
+      c .before .before .before .before .before .before .before .before .before .before .before .before .before .before .before .first-map .ensures,
+      c .before .before .before .before .before .before .before .before .before .before .before .before .before .before .before .before .before .before .before .pre,
+    )
+
+add-le : tie.Need-add-le Inv-loop μ-loop Inv-maps μ-maps
+add-le c =
+    search (
+      one-key,
+      c .before .before .before .write-pair .ensures,
+      c .before .before .before .before .before .if2 .left,
+      c .before .before .before .before .before .before .has-pair-room .ensures,
+      c .before .before .before .before .before .before .before .before .before .x3 .given .1,
+      c .before .before .before .before .before .before .before .before .before .before .before .step-at .ensures,
+      c .before .before .before .before .before .before .before .before .before .before .before .before .before .before .loop .inv,
+      c .before .before .before .before .before .before .before .before .before .before .before .before .before .before .before .if1 .left,
+      c .before .before .before .before .before .before .before .before .before .before .before .before .before .before .before .before .has-map-room .ensures,
+      c .before .before .before .before .before .before .before .before .before .before .before .before .before .before .before .before .before .before .maps .inv,
+      c .before .before .before .before .before .before .before .before .before .before .before .before .before .before .before .before .before .before .before .first-map .ensures,
+      c .before .before .before .before .before .before .before .before .before .before .before .before .before .before .before .before .before .before .before .before .before .before .before .pre,
+    )
+
+add-at : tie.Need-add-at Inv-loop μ-loop Inv-maps μ-maps
+add-at c =
+    search (
+      one-value,
+      c .before .before .before .before .write-pair .ensures,
+      c .before .before .before .before .before .before .if2 .left,
+      c .before .before .before .before .before .before .before .has-pair-room .ensures,
+      c .before .before .before .before .before .before .before .before .before .before .x3 .given .1,
+      c .before .before .before .before .before .before .before .before .before .before .before .before .step-at .ensures,
+      c .before .before .before .before .before .before .before .before .before .before .before .before .before .before .before .loop .inv,
+      c .before .before .before .before .before .before .before .before .before .before .before .before .before .before .before .before .if1 .left,
+      c .before .before .before .before .before .before .before .before .before .before .before .before .before .before .before .before .before .has-map-room .ensures,
+      c .before .before .before .before .before .before .before .before .before .before .before .before .before .before .before .before .before .before .before .maps .inv,
+      c .before .before .before .before .before .before .before .before .before .before .before .before .before .before .before .before .before .before .before .before .first-map .ensures,
+      c .before .before .before .before .before .before .before .before .before .before .before .before .before .before .before .before .before .before .before .before .before .before .before .before .pre,
+    )
+
+add-p : tie.Need-add-p Inv-loop μ-loop Inv-maps μ-maps
+add-p c =
+    search (
+      one-more,
+      c .before .before .before .before .write-pair .ensures,
+      c .before .before .before .before .before .before .if2 .left,
+      c .before .before .before .before .before .before .before .has-pair-room .ensures,
+      c .before .before .before .before .before .before .before .before .before .before .x3 .given .1,
+      c .before .before .before .before .before .before .before .before .before .before .before .before .step-at .ensures,
+      c .before .before .before .before .before .before .before .before .before .before .before .before .before .before .before .loop .inv,
+      c .before .before .before .before .before .before .before .before .before .before .before .before .before .before .before .before .if1 .left,
+      c .before .before .before .before .before .before .before .before .before .before .before .before .before .before .before .before .before .has-map-room .ensures,
+      c .before .before .before .before .before .before .before .before .before .before .before .before .before .before .before .before .before .before .before .maps .inv,
+      c .before .before .before .before .before .before .before .before .before .before .before .before .before .before .before .before .before .before .before .before .first-map .ensures,
+      c .before .before .before .before .before .before .before .before .before .before .before .before .before .before .before .before .before .before .before .before .before .before .before .before .pre,
+    )
+
+write-map-requires : tie.Need-write-map-requires Inv-loop μ-loop Inv-maps μ-maps
+write-map-requires c κs =
+    search (
+      map-writes,
+      c .before .before .x2 .given .1,
+      c .before .before .before .before .step-at .ensures,
+      c .before .before .before .before .before .before .before .loop .inv,
+      c .before .before .before .before .before .before .before .before .if1 .left,
+      c .before .before .before .before .before .before .before .before .before .has-map-room .ensures,
+      c .before .before .before .before .before .before .before .before .before .before .before .maps .inv,
+      c .before .before .before .before .before .before .before .before .before .before .before .before .first-map .ensures,
+      c .before .before .before .before .before .before .before .before .before .before .before .before .before .before .before .before .pre,
+    )
+
+maps-again : tie.Need-maps-again Inv-loop μ-loop Inv-maps μ-maps
+maps-again c =
+    search (
+      maps-next,
+      c .before .t3 .given .1,
+      c .before .before .before .after-map .ensures,
+      c .before .before .before .before .before .before .write-map .ensures,
+      c .before .before .before .before .before .before .before .before .before .x2 .given .1,
+      c .before .before .before .before .before .before .before .before .before .before .before .step-at .ensures,
+      c .before .before .before .before .before .before .before .before .before .before .before .before .before .before .loop .inv,
+      c .before .before .before .before .before .before .before .before .before .before .before .before .before .before .before .if1 .left,
+      c .before .before .before .before .before .before .before .before .before .before .before .before .before .before .before .before .has-map-room .ensures,
+      c .before .before .before .before .before .before .before .before .before .before .before .before .before .before .before .before .before .before .maps .inv,
+      c .before .before .before .before .before .before .before .before .before .before .before .before .before .before .before .before .before .before .before .first-map .ensures,
+      c .before .before .before .before .before .before .before .before .before .before .before .before .before .before .before .before .before .before .before .before .before .before .before .pre,
+    )
+
+returns-3 : tie.Need-returns-3 Inv-loop μ-loop Inv-maps μ-maps
+returns-3 c =
+    search (
+      exit-22,
+      c .if2 .taken,
+      c .before .has-pair-room .ensures,
+      c .before .before .before .before .x3 .given .1,
+      c .before .before .before .before .before .before .step-at .ensures,
+      c .before .before .before .before .before .before .before .before .before .loop .inv,
+      c .before .before .before .before .before .before .before .before .before .before .if1 .left,
+      c .before .before .before .before .before .before .before .before .before .before .before .has-map-room .ensures,
+      c .before .before .before .before .before .before .before .before .before .before .before .before .before .maps .inv,
+      c .before .before .before .before .before .before .before .before .before .before .before .before .before .before .first-map .ensures,
+      c .before .before .before .before .before .before .before .before .before .before .before .before .before .before .before .before .before .before .pre,
+    )
+
+returns-4 : tie.Need-returns-4 Inv-loop μ-loop Inv-maps μ-maps
+returns-4 c =
+    search (
+      exit-after,
+      c .before .t .given .1,
+      c .before .before .before .after-map .ensures,
+      c .before .before .before .before .before .before .write-map .ensures,
+      c .before .before .before .before .before .before .before .before .before .x2 .given .1,
+      c .before .before .before .before .before .before .before .before .before .before .before .step-at .ensures,
+      c .before .before .before .before .before .before .before .before .before .before .before .before .before .before .loop .inv,
+      c .before .before .before .before .before .before .before .before .before .before .before .before .before .before .before .if1 .left,
+      c .before .before .before .before .before .before .before .before .before .before .before .before .before .before .before .before .has-map-room .ensures,
+      c .before .before .before .before .before .before .before .before .before .before .before .before .before .before .before .before .before .before .maps .inv,
+      c .before .before .before .before .before .before .before .before .before .before .before .before .before .before .before .before .before .before .before .first-map .ensures,
+      c .before .before .before .before .before .before .before .before .before .before .before .before .before .before .before .before .before .before .before .before .before .before .before .pre,
+    )
+
+returns-5 : tie.Need-returns-5 Inv-loop μ-loop Inv-maps μ-maps
+returns-5 c =
+    search (
+      exit-done,
+      c .before .t2 .given .1,
+      c .before .before .before .after-map .ensures,
+      c .before .before .before .before .before .before .write-map .ensures,
+      c .before .before .before .before .before .before .before .before .before .x2 .given .1,
+      c .before .before .before .before .before .before .before .before .before .before .before .step-at .ensures,
+      c .before .before .before .before .before .before .before .before .before .before .before .before .before .before .loop .inv,
+      c .before .before .before .before .before .before .before .before .before .before .before .before .before .before .before .if1 .left,
+      c .before .before .before .before .before .before .before .before .before .before .before .before .before .before .before .before .has-map-room .ensures,
+      c .before .before .before .before .before .before .before .before .before .before .before .before .before .before .before .before .before .before .maps .inv,
+      c .before .before .before .before .before .before .before .before .before .before .before .before .before .before .before .before .before .before .before .first-map .ensures,
+      c .before .before .before .before .before .before .before .before .before .before .before .before .before .before .before .before .before .before .before .before .before .before .before .pre,
+    )
+
+-- needs: needs, loops
+pub read-maps-spec : {M : Type 1} → statement M
+read-maps-spec =
+    tie.close
+    (tie.spec
+    Inv-loop
+    μ-loop
+    Inv-maps
+    μ-maps
+    (λ c κs. search (needs, loops))
+    (λ c. search (needs, loops))
+    (λ c κs. search (needs, loops))
+    (λ c. search (needs, loops))
+    (λ c. search (needs, loops))
+    (λ c. search (needs, loops))
+    (λ c. search (needs, loops))
+    (λ c. search (needs, loops))
+    (λ c. search (needs, loops))
+    (λ c. search (needs, loops))
+    (λ c κs. search (needs, loops))
+    (λ c. search (needs, loops))
+    (λ c. search (needs, loops))
+    (λ c. search (needs, loops))
+    (λ c κs. search (needs, loops))
+    write-pair-requires
+    add-le
+    add-at
+    add-p
+    (λ c. search (needs, loops))
+    (λ c. search (needs, loops))
+    (λ c. search (needs, loops))
+    write-map-requires
+    (λ c. search (needs, loops))
+    (λ c κs. search (needs, loops))
+    (λ c. search (needs, loops))
+    (λ c. search (needs, loops))
+    (λ c. search (needs, loops))
+    (λ c. search (needs, loops))
+    maps-again
+    (λ c. search (needs, loops))
+    (λ c. search (needs, loops))
+    (λ c. search (needs, loops))
+    (λ c. search (needs, loops))
+    (λ c. search (needs, loops))
+    (λ c. search (needs, loops))
+    (λ c. search (needs, loops))
+    (λ c. search (needs, loops))
+    returns-3
+    (λ c. search (needs, loops))
+    (λ c. search (needs, loops))
+    returns-4
+    (λ c. search (needs, loops))
+    (λ c. search (needs, loops))
+    returns-5)

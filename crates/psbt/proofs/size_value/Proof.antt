@@ -1,0 +1,17 @@
+-- `psbt::size_value` is the definition's.
+use borrow.Author.Needs.{needs}
+use Rattle.psbt.proofs.Parts.{sizesOf}
+use Rattle.psbt.proofs.size_value.Statement.{statement}
+use Rattle.psbt.proofs.size_value.Tie as tie
+use Rattle.psbt.proofs.size_value.Reads as reads
+use Rattle.psbt.proofs.size_value.Lts as lts
+
+-- needs: needs, sizesOf
+pub size-value-spec : {M : Type 1} → statement M
+size-value-spec =
+    tie.close
+    (tie.spec
+    (λ c. search (needs, sizesOf))
+    (λ c. search (needs, sizesOf))
+    (λ c. search (needs, sizesOf))
+    (λ c. search (needs, sizesOf)))

@@ -1,0 +1,3 @@
+pub mod Walks
+pub mod Leans
+pub mod Steps

@@ -1,0 +1,661 @@
+// Reading a file into two lent tables: `parse`.
+ghost use mathlib.Core.Path.{_≡_};
+ghost use mathlib.Core.Bool.{_&&_};
+ghost use mathlib.Core.List.{[]};
+ghost use Rattle.format.specs.Keys.{keyOf, same};
+ghost use Rattle.format.specs.Numbers.{signed};
+ghost use Rattle.format.specs.Content.{magic, sizeValue, outputBy};
+ghost use Rattle.format.specs.Locks.{orZero};
+ghost use Rattle.format.specs.Rules.{andThen};
+ghost use lib.ListN.{length, take};
+ghost use Rattle.format.specs.Parse.{out, parsed};
+ghost use Rattle.format.specs.Told.{toldWith, toldParsed, toldParse};
+ghost use Rattle.psbt.specs.Leans.{mapsRead};
+ghost use Rattle.psbt.specs.Steps.{Places, InLimit, stepAt};
+ghost use Rattle.psbt.specs.Walks.{noted, notedCount, notedThere, noteGlobal, noteOutput, note, globalsRule, allThere, versionRule, psbtFrom, flags, seenRule, closeGlobal, closeOutput, close, finish, finishBy, anInput, anOutput, start, afterBy, after, there, countThere, countOf, atFirst};
+use entries::has_map_room;
+use entries::has_pair_room;
+use entries::write_map;
+use entries::write_pair;
+use format::GLOBAL;
+use format::INPUT;
+use format::LIMIT;
+use format::MapEntry;
+use format::Maybe;
+use format::OUTPUT;
+use format::Order;
+use format::PSBT_GLOBAL_FALLBACK_LOCKTIME;
+use format::PSBT_GLOBAL_INPUT_COUNT;
+use format::PSBT_GLOBAL_OUTPUT_COUNT;
+use format::PSBT_GLOBAL_TX_MODIFIABLE;
+use format::PSBT_GLOBAL_TX_VERSION;
+use format::PSBT_GLOBAL_VERSION;
+use format::PSBT_OUT_SCRIPT;
+use format::PSBT_OUT_SP_V0_INFO;
+use format::PSBT_OUT_SP_V0_LABEL;
+use format::PairEntry;
+use format::Parsed;
+use format::Psbt;
+use format::PsbtError;
+use format::Ruled;
+use format::Size;
+use keys::compare;
+use parsed_map::Item;
+use parsed_map::next_item;
+use wire::u32_from_le_bytes;
+use wire::u64_from_compact_size;
+
+// A count that may be absent.
+pub enum Count {
+    Absent,
+    Present(u64),
+}
+
+// What is known of the global map: its fields without key data.
+pub struct Globals {
+    pub tx_version: Maybe,
+    pub fallback_locktime: Maybe,
+    pub n_inputs: Count,
+    pub n_outputs: Count,
+    pub tx_modifiable: Maybe,
+    pub psbt_version: Maybe,
+}
+
+// Which of script 04, code 09 and label 0a the output that is read has.
+pub struct Seen {
+    pub script: bool,
+    pub code: bool,
+    pub label: bool,
+}
+
+// What is carried along a file: the kind of the map that is read, the global fields, how many inputs and outputs
+// are still to come, what the output that is read has, and what the rules say of the outputs so far.
+pub struct Walk {
+    pub kind: u8,
+    pub globals: Globals,
+    pub inputs: u64,
+    pub outputs: u64,
+    pub seen: Seen,
+    pub ruled: Ruled,
+}
+
+// What is carried on where a map ended, or the refusal.
+pub enum Closed {
+    Bad(PsbtError),
+    Good(Walk),
+}
+
+// What follows a map: a refusal, the end of the file, or another map.
+pub enum Next {
+    Stop(PsbtError),
+    Done(Psbt),
+    Map(Walk),
+}
+
+// A key is a type without data.
+fn is_bare(key: &[u8], key_type: u8) -> bool
+    ensures { λ r. ⌜ r ≡ same (keyOf «key_type» []) (now (key .entry)) ⌝ }
+{
+    if key.len() == 1 {
+        key[0] == key_type
+    } else {
+        false
+    }
+}
+
+// The value of a compact size, 0 where it could not be read.
+fn size_value(x: Size) -> u64
+    ensures { λ r. ⌜ r ≡ sizeValue x ⌝ }
+{
+    match x {
+        Size::Bad(e) => 0,
+        Size::Read { value, used } => value,
+    }
+}
+
+// A field of at most four bytes after a pair.
+fn noted(key_type: u8, key: &[u8], value: &[u8], old: Maybe) -> Maybe
+    ensures { λ r. ⌜ r ≡ noted «key_type» (now (key .entry)) (now (value .entry)) old ⌝ }
+{
+    if is_bare(key, key_type) {
+        Maybe::Present(u32_from_le_bytes(value))
+    } else {
+        old
+    }
+}
+
+// A count field after a pair.
+fn noted_count(key_type: u8, key: &[u8], value: &[u8], old: Count) -> Count
+    ensures { λ r. ⌜ r ≡ notedCount «key_type» (now (key .entry)) (now (value .entry)) old ⌝ }
+{
+    if is_bare(key, key_type) {
+        Count::Present(size_value(u64_from_compact_size(value)))
+    } else {
+        old
+    }
+}
+
+// Whether a field is there, after a pair.
+fn noted_there(key_type: u8, key: &[u8], old: bool) -> bool
+    ensures { λ r. ⌜ r ≡ notedThere «key_type» (now (key .entry)) [] old ⌝ }
+{
+    if is_bare(key, key_type) { true } else { old }
+}
+
+// The global fields after a pair of the global map.
+fn note_global(g: Globals, key: &[u8], value: &[u8]) -> Globals
+    ensures { λ r. ⌜ r ≡ noteGlobal (now (key .entry)) (now (value .entry)) g ⌝ }
+{
+    let old = g.tx_version;
+    let tx_version = noted(PSBT_GLOBAL_TX_VERSION, key, value, old);
+    let old = g.fallback_locktime;
+    let fallback_locktime = noted(PSBT_GLOBAL_FALLBACK_LOCKTIME, key, value, old);
+    let old = g.n_inputs;
+    let n_inputs = noted_count(PSBT_GLOBAL_INPUT_COUNT, key, value, old);
+    let old = g.n_outputs;
+    let n_outputs = noted_count(PSBT_GLOBAL_OUTPUT_COUNT, key, value, old);
+    let old = g.tx_modifiable;
+    let tx_modifiable = noted(PSBT_GLOBAL_TX_MODIFIABLE, key, value, old);
+    let old = g.psbt_version;
+    let psbt_version = noted(PSBT_GLOBAL_VERSION, key, value, old);
+    Globals {
+        tx_version,
+        fallback_locktime,
+        n_inputs,
+        n_outputs,
+        tx_modifiable,
+        psbt_version,
+    }
+}
+
+// What an output has, after a pair of it.
+fn note_output(seen: Seen, key: &[u8]) -> Seen
+    ensures { λ r. ⌜ r ≡ noteOutput (now (key .entry)) [] seen ⌝ }
+{
+    Seen {
+        script: noted_there(PSBT_OUT_SCRIPT, key, seen.script),
+        code: noted_there(PSBT_OUT_SP_V0_INFO, key, seen.code),
+        label: noted_there(PSBT_OUT_SP_V0_LABEL, key, seen.label),
+    }
+}
+
+// What is carried on after a pair.
+fn note_pair(w: Walk, key: &[u8], value: &[u8]) -> Walk
+    ensures { λ r. ⌜ r ≡ note (now (key .entry)) (now (value .entry)) w ⌝ }
+{
+    if key.len() != 1 {
+        return w;
+    }
+    let globals = w.globals;
+    let seen = w.seen;
+    let ruled = w.ruled;
+    if w.kind == GLOBAL {
+        return Walk {
+            kind: w.kind,
+            globals: note_global(globals, key, value),
+            inputs: w.inputs,
+            outputs: w.outputs,
+            seen,
+            ruled,
+        };
+    }
+    if w.kind == OUTPUT {
+        return Walk {
+            kind: w.kind,
+            globals,
+            inputs: w.inputs,
+            outputs: w.outputs,
+            seen: note_output(seen, key),
+            ruled,
+        };
+    }
+    w
+}
+
+fn is_there(m: Maybe) -> bool
+    ensures { λ r. ⌜ r ≡ there m ⌝ }
+{
+    match m {
+        Maybe::Absent => false,
+        Maybe::Present(n) => true,
+    }
+}
+
+fn is_counted(c: Count) -> bool
+    ensures { λ r. ⌜ r ≡ countThere c ⌝ }
+{
+    match c {
+        Count::Absent => false,
+        Count::Present(n) => true,
+    }
+}
+
+fn or_zero(m: Maybe) -> u32
+    ensures { λ r. ⌜ r ≡ orZero m ⌝ }
+{
+    match m {
+        Maybe::Absent => 0,
+        Maybe::Present(n) => n,
+    }
+}
+
+fn count_of(c: Count) -> u64
+    ensures { λ r. ⌜ r ≡ countOf c ⌝ }
+{
+    match c {
+        Count::Absent => 0,
+        Count::Present(n) => n,
+    }
+}
+
+fn both(a: bool, b: bool) -> bool
+    ensures { λ r. ⌜ r ≡ (a && b) ⌝ }
+{
+    if a { b } else { false }
+}
+
+// All that has to be in the global map is there.
+fn has_counts(g: Globals) -> bool
+    ensures { λ r. ⌜ r ≡ allThere g ⌝ }
+{
+    let tx_version = g.tx_version;
+    let n_inputs = g.n_inputs;
+    let n_outputs = g.n_outputs;
+    let psbt_version = g.psbt_version;
+    let last = both(is_counted(n_outputs), is_there(psbt_version));
+    let more = both(is_counted(n_inputs), last);
+    both(is_there(tx_version), more)
+}
+
+fn check_version(psbt_version: Maybe) -> Ruled
+    ensures { λ r. ⌜ r ≡ versionRule «psbt_version» ⌝ }
+{
+    if or_zero(psbt_version) == 2 {
+        Ruled::Passed
+    } else {
+        Ruled::Refused(PsbtError::NotAllowed)
+    }
+}
+
+// The rule of the global map: what has to be there, then the version.
+fn check_globals(g: Globals) -> Ruled
+    ensures { λ r. ⌜ r ≡ globalsRule g ⌝ }
+{
+    let psbt_version = g.psbt_version;
+    if has_counts(g) {
+        check_version(psbt_version)
+    } else {
+        Ruled::Refused(PsbtError::MissingCounts)
+    }
+}
+
+// 32 bits read as a signed number.
+fn signed(x: u32) -> i32
+    ensures { λ r. ⌜ r ≡ signed x ⌝ }
+{
+    if x < 0x8000_0000 {
+        x as i32
+    } else {
+        (x - 0x8000_0000) as i32 + (-2147483647 - 1)
+    }
+}
+
+// What is reported of the global map.
+fn psbt_of(g: Globals) -> Psbt
+    ensures { λ r. ⌜ r ≡ psbtFrom g ⌝ }
+{
+    let tx_version = g.tx_version;
+    let fallback_locktime = g.fallback_locktime;
+    let tx_modifiable = g.tx_modifiable;
+    let n_inputs = g.n_inputs;
+    let n_outputs = g.n_outputs;
+    Psbt {
+        tx_version: signed(or_zero(tx_version)),
+        fallback_locktime,
+        tx_modifiable,
+        inputs: count_of(n_inputs),
+        outputs: count_of(n_outputs),
+    }
+}
+
+// Any of the two low flags of the modifiable byte is set.
+fn is_modifiable(tx_modifiable: Maybe) -> bool
+    ensures { λ r. ⌜ r ≡ flags «tx_modifiable» ⌝ }
+{
+    or_zero(tx_modifiable) & 0b11 != 0
+}
+
+// The rules of silent payments for one output.
+fn validate_silent_payment_output(tx_modifiable: Maybe, seen: Seen) -> Ruled
+    ensures { λ r. ⌜ r ≡ outputBy (flags «tx_modifiable») (seen .script) (seen .code) (seen .label) ⌝ }
+{
+    if seen.script {
+        if seen.code {
+            if is_modifiable(tx_modifiable) {
+                return Ruled::Refused(PsbtError::InvalidSilentPayment);
+            }
+            return Ruled::Passed;
+        }
+        if seen.label {
+            return Ruled::Refused(PsbtError::InvalidSilentPayment);
+        }
+        return Ruled::Passed;
+    }
+    if seen.code {
+        return Ruled::Passed;
+    }
+    Ruled::Refused(PsbtError::MissingOutputScript)
+}
+
+fn and_then(a: Ruled, b: Ruled) -> Ruled
+    ensures { λ r. ⌜ r ≡ andThen a b ⌝ }
+{
+    match a {
+        Ruled::Passed => b,
+        Ruled::Refused(e) => Ruled::Refused(e),
+    }
+}
+
+// Where the global map ended: its rule, and then how many inputs and outputs follow.
+fn close_global(w: Walk) -> Closed
+    ensures { λ r. ⌜ r ≡ closeGlobal w (globalsRule (w .globals)) ⌝ }
+{
+    let globals = w.globals;
+    let seen = w.seen;
+    let ruled = w.ruled;
+    let n_inputs = globals.n_inputs;
+    let n_outputs = globals.n_outputs;
+    match check_globals(globals) {
+        Ruled::Refused(e) => Closed::Bad(e),
+        Ruled::Passed => Closed::Good(Walk {
+            kind: w.kind,
+            globals,
+            inputs: count_of(n_inputs),
+            outputs: count_of(n_outputs),
+            seen,
+            ruled,
+        }),
+    }
+}
+
+// Where an output ended: the first breach of the output rules is kept.
+fn close_output(w: Walk) -> Walk
+    ensures { λ r. ⌜ r ≡ closeOutput w ⌝ }
+{
+    let globals = w.globals;
+    let seen = w.seen;
+    let ruled = w.ruled;
+    let tx_modifiable = globals.tx_modifiable;
+    Walk {
+        kind: w.kind,
+        globals,
+        inputs: w.inputs,
+        outputs: w.outputs,
+        seen,
+        ruled: and_then(ruled, validate_silent_payment_output(tx_modifiable, seen)),
+    }
+}
+
+// Where the map that is read ended.
+fn close_map(w: Walk) -> Closed
+    ensures { λ r. ⌜ r ≡ close w ⌝ }
+{
+    if w.kind == GLOBAL {
+        return close_global(w);
+    }
+    if w.kind == OUTPUT {
+        return Closed::Good(close_output(w));
+    }
+    Closed::Good(w)
+}
+
+// After all maps: nothing is left over, and then the output rules.
+fn finish(w: Walk, left: bool) -> Next
+    ensures { λ r. ⌜ r ≡ finish w left ⌝ }
+{
+    let globals = w.globals;
+    let ruled = w.ruled;
+    if left {
+        return Next::Stop(PsbtError::UnexpectedEof);
+    }
+    match ruled {
+        Ruled::Passed => Next::Done(psbt_of(globals)),
+        Ruled::Refused(e) => Next::Stop(e),
+    }
+}
+
+// The next map: an input, an output, or none.
+fn start_map(w: Walk, left: bool) -> Next
+    ensures { λ r. ⌜ r ≡ start w left ⌝ }
+{
+    let globals = w.globals;
+    let seen = w.seen;
+    let ruled = w.ruled;
+    if 0 < w.inputs {
+        return Next::Map(Walk {
+            kind: INPUT,
+            globals,
+            inputs: w.inputs - 1,
+            outputs: w.outputs,
+            seen,
+            ruled,
+        });
+    }
+    if 0 < w.outputs {
+        return Next::Map(Walk {
+            kind: OUTPUT,
+            globals,
+            inputs: w.inputs,
+            outputs: w.outputs - 1,
+            seen: Seen {
+                script: false,
+                code: false,
+                label: false,
+            },
+            ruled,
+        });
+    }
+    finish(w, left)
+}
+
+// What follows the map that is read.
+fn after_map(w: Walk, left: bool) -> Next
+    ensures { λ r. ⌜ r ≡ after w left ⌝ }
+{
+    match close_map(w) {
+        Closed::Bad(e) => Next::Stop(e),
+        Closed::Good(v) => start_map(v, left),
+    }
+}
+
+// What stands at a place of the file: a refusal, the map's end with the place behind it, or a pair's entry with what is
+// carried on.
+pub enum Step {
+    Stop(PsbtError),
+    Over(usize),
+    One { entry: PairEntry, walk: Walk },
+}
+
+// One pair or the end of the map that is read, at the front of the file's remaining part, which begins at `at`.
+fn step_at(rest: &[u8], last: &[u8], at: usize, w: Walk) -> Step
+    requires { ⌜ Places (length (now rest)) at ⌝ }
+    ensures { λ r. ⌜ r ≡ stepAt (now (rest .entry)) (now (last .entry)) at w ⌝ }
+{
+    match next_item(rest, last, w.kind) {
+        Item::Stop(e) => Step::Stop(e),
+        Item::Over(used) => Step::Over(at + used),
+        Item::One {
+            key,
+            klen,
+            value,
+            vlen,
+        } => {
+            let key_end = key + klen;
+            let value_end = value + vlen;
+            Step::One {
+                entry: PairEntry {
+                    key: at + key,
+                    klen,
+                    value: at + value,
+                    vlen,
+                },
+                walk: note_pair(w, &rest[key..key_end], &rest[value..value_end]),
+            }
+        }
+    }
+}
+
+// What is known before the first map.
+fn first_map() -> Walk
+    ensures { λ r. ⌜ r ≡ atFirst ⌝ }
+{
+    Walk {
+        kind: GLOBAL,
+        globals: Globals {
+            tx_version: Maybe::Absent,
+            fallback_locktime: Maybe::Absent,
+            n_inputs: Count::Absent,
+            n_outputs: Count::Absent,
+            tx_modifiable: Maybe::Absent,
+            psbt_version: Maybe::Absent,
+        },
+        inputs: 0,
+        outputs: 0,
+        seen: Seen {
+            script: false,
+            code: false,
+            label: false,
+        },
+        ruled: Ruled::Passed,
+    }
+}
+
+// The maps of a file, read into two tables: four words for each pair, two for each map.
+fn read_maps(file: &[u8], pairs: &mut [u32], maps: &mut [u32]) -> Parsed
+    requires { ⌜ InLimit (length (now file)) ⌝ }
+    ensures { λ r. ⌜ out r (now (pairs .exit)) (now (maps .exit)) ≡ mapsRead (now (file .entry)) (now (pairs .entry)) (now (maps .entry)) ⌝ }
+{
+    let mut answer = Parsed::Refused {
+        error: PsbtError::MapsFull,
+        pairs: 0,
+        maps: 0,
+    };
+    let mut w = first_map();
+    let mut at: usize = 5;
+    let mut p: usize = 0;
+    let mut m: usize = 0;
+    'maps: loop {
+        if !has_map_room(maps, m) {
+            answer = Parsed::Refused {
+                error: PsbtError::MapsFull,
+                pairs: p,
+                maps: m,
+            };
+            break 'maps;
+        }
+        let first = p;
+        let mut la: usize = at;
+        let mut le: usize = at;
+        loop {
+            let x = step_at(&file[at..], &file[la..le], at, w);
+            match x {
+                Step::Stop(e) => {
+                    answer = Parsed::Refused {
+                        error: e,
+                        pairs: p,
+                        maps: m,
+                    };
+                    break 'maps;
+                }
+                Step::Over(to) => {
+                    at = to;
+                    break;
+                }
+                Step::One { entry, walk } => {
+                    if !has_pair_room(pairs, p) {
+                        answer = Parsed::Refused {
+                            error: PsbtError::PairsFull,
+                            pairs: p,
+                            maps: m,
+                        };
+                        break 'maps;
+                    }
+                    write_pair(pairs, p, entry);
+                    la = entry.key;
+                    le = entry.key + entry.klen;
+                    at = entry.value + entry.vlen;
+                    p = p + 1;
+                    w = walk;
+                }
+            }
+        }
+        write_map(
+            maps,
+            m,
+            MapEntry {
+                first,
+                count: p - first,
+            },
+        );
+        m = m + 1;
+        let t = after_map(w, at < file.len());
+        match t {
+            Next::Stop(e) => {
+                answer = Parsed::Refused {
+                    error: e,
+                    pairs: p,
+                    maps: m,
+                };
+                break 'maps;
+            }
+            Next::Done(psbt) => {
+                answer = Parsed::Accepted {
+                    psbt,
+                    pairs: p,
+                    maps: m,
+                };
+                break 'maps;
+            }
+            Next::Map(v) => {
+                w = v;
+            }
+        }
+    }
+    answer
+}
+
+// The five bytes that every file begins with.
+fn has_magic(file: &[u8]) -> bool
+    ensures { λ r. ⌜ r ≡ same (take 5 (now (file .entry))) magic ⌝ }
+{
+    if file.len() < 5 {
+        return false;
+    }
+    match compare(&file[..5], b"psbt\xff") {
+        Order::Below => false,
+        Order::Same => true,
+        Order::Above => false,
+    }
+}
+
+// Parses a file into a pair table and a map table. Each entry is told by the definitions; both tables keep everything
+// that is not an entry of a pair accepted or of a map ended.
+pub fn parse(file: &[u8], pairs: &mut [u32], maps: &mut [u32]) -> Parsed
+    ensures { λ r. ⌜ toldWith (toldParsed r) (now (pairs .exit)) (now (maps .exit)) ≡ toldParse (parsed (now (file .entry)) (now (pairs .entry)) (now (maps .entry))) ⌝ }
+{
+    if LIMIT < file.len() {
+        return Parsed::Refused {
+            error: PsbtError::TooLong,
+            pairs: 0,
+            maps: 0,
+        };
+    }
+    if !has_magic(file) {
+        return Parsed::Refused {
+            error: PsbtError::InvalidMagic,
+            pairs: 0,
+            maps: 0,
+        };
+    }
+    read_maps(file, pairs, maps)
+}

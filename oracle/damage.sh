@@ -1,0 +1,66 @@
+#!/bin/sh
+# Shows that the comparison can fail: damages a copy of the original, one way at a time, builds the harness over it and
+# compares its answers with the given ones. A damage that no answer shows is a hole in the records.
+#
+#     damage.sh ORIGINAL RECORDS ANSWERS
+#
+# ANSWERS are those of `answers` or of `model` for RECORDS. Needs the release builds of this folder. Leaves nothing behind.
+set -eu
+[ $# -eq 3 ] || { sed -n '2,8s/^# \{0,1\}//p' "$0" >&2; exit 2; }
+original=$1 records=$2 answers=$3
+here=$(cd "$(dirname "$0")" && pwd)
+work=$(mktemp -d)
+trap 'rm -rf "$work"' EXIT
+
+made=0
+noticed=0
+
+# Builds over the copy, answers the records and compares.
+answer() {
+  FASTPSBT_RS="$work/fastpsbt.rs" CARGO_TARGET_DIR="$work/target" \
+    cargo build --quiet --offline --release --manifest-path "$here/Cargo.toml" -p harness >"$work/build" 2>&1 ||
+    { echo "doesn't build: $1" >&2; cat "$work/build" >&2; exit 1; }
+  # A damaged reader may stop: the lines that are missing then differ.
+  "$work/target/release/harness" <"$records" >"$work/theirs" 2>/dev/null || true
+  "$here/target/release/compare" "$answers" "$work/theirs" >"$work/said" && same=0 || same=$?
+  [ "$same" -le 1 ] || { echo "not compared: $1" >&2; exit 1; }
+}
+
+damage() {
+  sed "$2" "$original" >"$work/fastpsbt.rs"
+  # One line, no more and no less.
+  lines=$(diff "$original" "$work/fastpsbt.rs" | grep -c '^>' || true)
+  [ "$lines" -eq 1 ] || { echo "changes $lines lines: $1" >&2; exit 1; }
+  answer "$1"
+  made=$((made + 1))
+  if [ "$same" -eq 1 ]; then
+    noticed=$((noticed + 1))
+    echo "noticed  $1: $(tail -n 1 "$work/said")"
+  else
+    echo "UNSEEN   $1"
+  fi
+}
+
+# First the copy as it is: it must agree, or nothing below means anything.
+cp "$original" "$work/fastpsbt.rs"
+answer "the copy as it is"
+[ "$same" -eq 0 ] || { echo "the copy as it is differs:" >&2; cat "$work/said" >&2; exit 1; }
+echo "as it is: $(tail -n 1 "$work/said")"
+
+damage 'four bytes of the magic' 's/&raw\[\.\.5\] != MAGIC/raw[..4] != MAGIC[..4]/'
+damage 'fd read with the greater byte first' 's/Ok(u16::from_le_bytes/Ok(u16::from_be_bytes/'
+damage 'an equal key told as unsorted' 's/key_data < last\.key_data/key_data <= last.key_data/'
+damage 'the value read before the order is judged' \
+  's/return Err(PsbtError::UnsortedKeys);/cur.read_len_prefixed()?; &/'
+damage 'one leftover byte let pass' 's/^        if cur\.remaining() > 0 {/        if cur.remaining() > 1 {/'
+damage 'leftover bytes of a count told only after a good read' \
+  's/^    if cur\.remaining() > 0 {/    if res.is_ok() \&\& cur.remaining() > 0 {/'
+damage 'a size refused only if key data and value are wrong' 's/!= key_data_len ||/!= key_data_len \&\&/'
+damage 'a key origin of a multiple of 2' 's/value_len % 4 != 0/value_len % 2 != 0/'
+damage 'the second flag not looked at' 's/& 0b11 != 0/\& 0b01 != 0/'
+damage 'a label without a code let pass' 's/if output\.sp_v0_label\.is_some() \&\&/if false \&\&/'
+damage 'versions above 2 accepted' 's/psbt_version != 2/psbt_version < 2/'
+damage 'the type of the tweak off by one' 's/PSBT_IN_SP_TWEAK: u8 = 0x20/PSBT_IN_SP_TWEAK: u8 = 0x21/'
+
+echo "$noticed of $made damages noticed"
+[ "$noticed" -eq "$made" ]

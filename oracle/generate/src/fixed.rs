@@ -1,0 +1,396 @@
+//! Files by name: the proved examples, the remembered vectors, the cases of BIP-370, and everything about short ones.
+
+use crate::draft::put_size;
+use crate::{Sink, AMPLE};
+use std::io::{self, Write};
+
+fn hex(text: &str) -> Vec<u8> {
+    let digits: Vec<u32> = text.chars().filter(|c| !c.is_whitespace()).map(|c| c.to_digit(16).unwrap()).collect();
+    digits.chunks(2).map(|d| (16 * d[0] + d[1]) as u8).collect()
+}
+
+fn base64(text: &str) -> Vec<u8> {
+    let (mut held, mut bits, mut bytes) = (0u32, 0, Vec::new());
+    for c in text.bytes().filter(|c| *c != b'=') {
+        let six = match c {
+            b'A'..=b'Z' => c - b'A',
+            b'a'..=b'z' => c - b'a' + 26,
+            b'0'..=b'9' => c - b'0' + 52,
+            b'+' => 62,
+            b'/' => 63,
+            _ => panic!("not base64"),
+        };
+        held = held << 6 | u32::from(six);
+        bits += 6;
+        if bits >= 8 {
+            bits -= 8;
+            bytes.push((held >> bits) as u8);
+            held &= (1 << bits) - 1;
+        }
+    }
+    bytes
+}
+
+const MAGIC: &str = "70736274ff";
+const TX: &str = "01020402000000";
+const VERSION: &str = "01fb0402000000";
+const TXID: &str = "010e20 1111111111111111111111111111111111111111111111111111111111111111";
+const INDEX: &str = "010f0400000000";
+const AMOUNT: &str = "010308e803000000000000";
+const SCRIPT: &str = "01040151";
+
+/// A file from its maps in hex; the ends are added.
+fn maps(maps: &[&[&str]]) -> Vec<u8> {
+    let mut file = hex(MAGIC);
+    for map in maps {
+        for pair in *map {
+            file.extend(hex(pair));
+        }
+        file.push(0);
+    }
+    file
+}
+
+fn counts(inputs: u8, outputs: u8) -> (String, String) {
+    (format!("010401{inputs:02x}"), format!("010501{outputs:02x}"))
+}
+
+/// F with these inputs, each with its txid and index, and perhaps a fallback.
+fn locked(fallback: Option<u32>, inputs: &[&[(u8, u32)]]) -> Vec<u8> {
+    let (count, one) = counts(inputs.len() as u8, 1);
+    let number = |n: u32| n.to_le_bytes().iter().map(|b| format!("{b:02x}")).collect::<String>();
+    let fallback = fallback.map(|n| format!("010304{}", number(n))).unwrap_or_default();
+    let locks: Vec<String> = inputs
+        .iter()
+        .map(|asked| asked.iter().map(|(key_type, n)| format!("01{key_type:02x}04{}", number(*n))).collect())
+        .collect();
+    let global = [TX, &fallback, &count, &one, VERSION];
+    let ins: Vec<[&str; 3]> = locks.iter().map(|lock| [TXID, INDEX, lock.as_str()]).collect();
+    let mut all: Vec<&[&str]> = vec![&global];
+    all.extend(ins.iter().map(|input| &input[..]));
+    all.push(&[AMOUNT, SCRIPT]);
+    maps(&all)
+}
+
+pub fn e() -> Vec<u8> {
+    maps(&[&[TX, "01040100", "01050100", VERSION]])
+}
+
+pub fn f() -> Vec<u8> {
+    locked(None, &[&[]])
+}
+
+const REQUIRED_ONLY: &str = "\
+    cHNidP8BAgQCAAAAAQQBAQEFAQIB+wQCAAAAAAEOIAsK2SFBnByHGXNdctxzn56p4GONH+TB7vD5lECEgV/IAQ8EAAAAAAABAwgA\
+    CK8vAAAAAAEEFgAUxDD2TEdW2jENvRoIVXLvKZkmJywAAQMIi73rCwAAAAABBBYAFE3Rk6yWSlasG54cyoRU/i9HT4UTAA==";
+const WITH_PREVIOUS: &str = "\
+    cHNidP8BAgQCAAAAAQMEAAAAAAEEAQEBBQECAfsEAgAAAAABAFICAAAAAcGqJFHWEbBBGVkwAkx3BNLH1jyRwYJPDO6cgPoFF4ui\
+    AAAAAAD9////AeoOpgAAAAAAFgAUTdGTrJZKVqwbnhzKhFT+L0dPhRMAAAAAAQ4gCwrZIUGcHIcZc11y3HOfnqngY40f5MHu8PmU\
+    QISBX8gBDwQAAAAAAAEDCAAIry8AAAAAAQQWABTEMPZMR1baMQ29GghVcu8pmSYnLAABAwiLvesLAAAAAAEEFgAUTdGTrJZKVqwb\
+    nhzKhFT+L0dPhRMA";
+
+/// The files of P1 to P13 in their order.
+fn examples() -> Vec<Vec<u8>> {
+    let e_with = |pairs: &[&str]| maps(&[pairs]);
+    let mut e_and_00 = e();
+    e_and_00.push(0);
+    let mut e_long_end = e();
+    e_long_end.pop();
+    e_long_end.extend(hex("fd0000"));
+    let (one, two) = counts(1, 1);
+    let f_global = [TX, &one, &two, VERSION];
+    vec![
+        e(),
+        f(),
+        vec![],
+        hex(MAGIC),
+        e_with(&[TX, "010402fd01", "01050100", VERSION]),
+        e_with(&[TX, "010400", "01050100", VERSION]),
+        e_and_00,
+        e_with(&[TX, "01050100", "01040100", VERSION]),
+        e_with(&[TX, "01040100", "01040100", "01050100", VERSION]),
+        e_with(&[TX, "01040100", "01050100", "01fb0403000000"]),
+        e_with(&[TX, "01040100", "01050100"]),
+        maps(&[&f_global, &[TXID, INDEX], &[AMOUNT]]),
+        locked(None, &[&[(0x12, 499_999_999)]]),
+        locked(None, &[&[(0x12, 500_000_000)]]),
+        locked(None, &[&[(0x11, 500_000_000)]]),
+        locked(None, &[&[(0x11, 499_999_999)]]),
+        locked(Some(1_700_000_000), &[&[(0x12, 800_000)]]),
+        maps(&[&f_global, &[TXID, INDEX], &[AMOUNT, SCRIPT, "017f00"]]),
+        e_long_end,
+    ]
+}
+
+/// What BIP-370 wants refused, and its cases of lock times.
+fn bip_370() -> Vec<Vec<u8>> {
+    let (one, two) = counts(1, 1);
+    let global = [TX, &one, &two, VERSION];
+    let input = [TXID, INDEX];
+    let output = [AMOUNT, SCRIPT];
+    vec![
+        maps(&[&["010000", TX, &one, &two, VERSION], &input, &output]),
+        maps(&[&[&one, &two, VERSION], &input, &output]),
+        maps(&[&[TX, &two, VERSION], &input, &output]),
+        maps(&[&[TX, &one, VERSION], &input, &output]),
+        maps(&[&global, &[INDEX], &output]),
+        maps(&[&global, &[TXID], &output]),
+        maps(&[&global, &input, &[SCRIPT]]),
+        maps(&[&global, &input, &[AMOUNT]]),
+        locked(None, &[&[(0x11, 0)]]),
+        locked(None, &[&[(0x11, 499_999_999)]]),
+        locked(None, &[&[(0x12, 500_000_000)]]),
+        locked(None, &[&[(0x12, u32::MAX)]]),
+        // Nothing asked; heights only; times only; both kinds on every input; one input of each kind alone.
+        locked(None, &[&[], &[]]),
+        locked(Some(0), &[&[], &[]]),
+        locked(Some(800_000), &[&[], &[]]),
+        locked(None, &[&[(0x12, 10_000)], &[]]),
+        locked(None, &[&[(0x12, 10_000)], &[(0x12, 9_000)]]),
+        locked(None, &[&[(0x11, 1_657_048_459)], &[(0x11, 1_657_048_460)]]),
+        locked(None, &[&[(0x11, 1_657_048_459), (0x12, 10_000)], &[(0x11, 1_657_048_460), (0x12, 9_000)]]),
+        locked(None, &[&[(0x11, 1_657_048_459), (0x12, 10_000)], &[(0x12, 9_000)]]),
+        locked(None, &[&[(0x11, 1_657_048_459), (0x12, 10_000)], &[(0x11, 1_657_048_460)]]),
+        locked(None, &[&[(0x11, 1_657_048_459)], &[(0x12, 9_000)]]),
+        locked(None, &[&[(0x11, 86_400)], &[(0x11, 1_700_000_000)]]),
+        locked(Some(1_700_000_000), &[&[(0x12, 0)]]),
+    ]
+}
+
+/// Small files at the corners of the rules.
+fn corners() -> Vec<Vec<u8>> {
+    let key = "02".to_string() + &"aa".repeat(32);
+    let many = |byte: &str, n: usize| byte.repeat(n);
+    let (one, two) = counts(1, 1);
+    let global = [TX, &one, &two, VERSION];
+    let mut files = Vec::new();
+    // Count fields: every first byte with every length of what follows.
+    for first in ["00", "01", "fc", "fd", "fe", "ff"] {
+        for rest in 0..10 {
+            let value = first.to_string() + &many("00", rest);
+            for key_type in ["04", "05"] {
+                let pair = format!("01{key_type}{:02x}{value}", rest + 1);
+                let pairs =
+                    if key_type == "04" { [TX, &pair, "01050100", VERSION] } else { [TX, "01040100", &pair, VERSION] };
+                files.push(maps(&[&pairs]));
+            }
+        }
+    }
+    files.push(maps(&[&[TX, "010400", "01050100", VERSION]]));
+    files.push(maps(&[&[TX, "01040100", "010500", VERSION]]));
+    // Counts near 2^64, with and without maps behind them.
+    for value in ["ffffffffffffffffff", "fffeffffffffffffff", "ff0000000000000080", "fe00000100", "fdffff"] {
+        let length = value.len() / 2;
+        let many_inputs = format!("0104{length:02x}{value}");
+        let many_outputs = format!("0105{length:02x}{value}");
+        for pairs in [
+            [TX, many_inputs.as_str(), "01050100", VERSION],
+            [TX, "01040100", many_outputs.as_str(), VERSION],
+            [TX, many_inputs.as_str(), many_outputs.as_str(), VERSION],
+        ] {
+            files.push(maps(&[&pairs]));
+            files.push(maps(&[&pairs, &[], &[], &[]]));
+        }
+    }
+    // Every sized type, with key data and value of 0 to 70 bytes.
+    for (kind, key_type) in [
+        (0, "03"),
+        (0, "06"),
+        (0, "07"),
+        (0, "08"),
+        (1, "03"),
+        (1, "0e"),
+        (1, "0f"),
+        (1, "10"),
+        (1, "11"),
+        (1, "12"),
+        (1, "1d"),
+        (1, "1e"),
+        (1, "1f"),
+        (1, "20"),
+        (2, "03"),
+        (2, "09"),
+        (2, "0a"),
+    ] {
+        for data in [0, 1, 32, 33, 34] {
+            for value in [0, 1, 2, 3, 4, 5, 7, 8, 9, 12, 31, 32, 33, 34, 63, 64, 65, 66, 67] {
+                let pair = format!(
+                    "{:02x}{key_type}{}{:02x}{}",
+                    data + 1,
+                    &key.repeat(2)[..2 * data],
+                    value,
+                    many("07", value)
+                );
+                let mut pairs: [Vec<&str>; 3] = [global.to_vec(), vec![], vec![SCRIPT]];
+                pairs[kind].push(&pair);
+                // By key: the type is the second byte of a pair.
+                pairs[kind].sort_by(|a, b| a[2..].cmp(&b[2..]));
+                files.push(maps(&[&pairs[0], &pairs[1], &pairs[2]]));
+            }
+        }
+    }
+    // Script, code and label under every value of the flags, on the second output.
+    for flags in ["-", "00", "01", "02", "03", "04", "fc", "ff"] {
+        for mixture in 0..8 {
+            let flags = if flags == "-" { String::new() } else { format!("010601{flags}") };
+            let code = format!("010942{}", key.repeat(2));
+            let mut output = vec![AMOUNT];
+            for (bit, pair) in [(1, SCRIPT), (2, code.as_str()), (4, "010a0401000000")] {
+                if mixture & bit != 0 {
+                    output.push(pair);
+                }
+            }
+            files.push(maps(&[&[TX, "01040100", "01050102", &flags, VERSION], &[AMOUNT, SCRIPT], &output]));
+            // A breach on the first output decides, and leftover bytes come before both.
+            files.push(maps(&[&[TX, "01040100", "01050102", &flags, VERSION], &output, &[AMOUNT]]));
+            files.push(maps(&[&[TX, "01040100", "01050101", &flags, VERSION], &output, &[]]));
+        }
+    }
+    // Order before value, and order after it; key data decides; the next map begins anew.
+    for pair in
+        ["0102ff", "0102ffffffffffffffffff", "0102", "010203020000", "02020000", "0202", "010104", "0101", "010100"]
+    {
+        let mut file = hex(MAGIC);
+        file.extend(hex(TX));
+        file.extend(hex(pair));
+        files.push(file);
+        files.push(maps(&[&[TX, pair, "01040100", "01050100", VERSION]]));
+    }
+    files.extend(forms(&[0xfc, 0xfd, 0xff, 0x100]));
+    files
+}
+
+/// Keys and values of these lengths, their compact sizes in every form that holds them.
+fn forms(lengths: &[usize]) -> Vec<Vec<u8>> {
+    let mut files = Vec::new();
+    for length in lengths {
+        for form in 0..4 {
+            for in_key in [true, false] {
+                let mut file = e();
+                file.pop();
+                if in_key {
+                    put_size(&mut file, *length as u64, form);
+                    file.push(0xfc);
+                    file.extend(vec![0x31; length - 1]);
+                    file.push(0);
+                } else {
+                    file.extend(hex("01fc"));
+                    put_size(&mut file, *length as u64, form);
+                    file.extend(vec![0x31; *length]);
+                }
+                file.push(0);
+                files.push(file);
+            }
+        }
+    }
+    files
+}
+
+/// A short file with fields of every kind.
+fn rich() -> Vec<u8> {
+    let key = "02".to_string() + &"aa".repeat(32);
+    let share = format!("2207{key}21{key}");
+    let code = format!("010942{}", key.repeat(2));
+    let tweak = format!("0120 20{}", "bb".repeat(32));
+    let spend = format!("221f{key}0801020304 00000080");
+    let list = format!("221a{key}21{key}");
+    maps(&[
+        &[TX, "010304 00ca9a3b", "01040101", "01050102", "01060100", &share, VERSION, "03fc0178 00"],
+        &[TXID, INDEX, "011204 00350c00", &list, &spend, &tweak],
+        &[AMOUNT, SCRIPT],
+        &[AMOUNT, &code, "010a0401000000", "0135 00"],
+    ])
+}
+
+pub fn all<W: Write>(sink: &mut Sink<W>) -> io::Result<()> {
+    for file in examples() {
+        sink.put("example", AMPLE, &file)?;
+    }
+    for text in [REQUIRED_ONLY, WITH_PREVIOUS] {
+        sink.put("vector", AMPLE, &base64(text))?;
+    }
+    for file in bip_370() {
+        sink.put("case of BIP-370", AMPLE, &file)?;
+    }
+    for file in corners() {
+        sink.put("corner", AMPLE, &file)?;
+    }
+    sink.put("rich", AMPLE, &rich())?;
+    for file in [e(), f(), rich(), base64(REQUIRED_ONLY)] {
+        for end in 0..file.len() {
+            sink.put("every cut", AMPLE, &file[..end])?;
+        }
+    }
+    for file in [e(), f()] {
+        for at in 0..8 * file.len() {
+            let mut flipped = file.clone();
+            flipped[at / 8] ^= 1 << (at % 8);
+            sink.put("every flipped bit", AMPLE, &flipped)?;
+        }
+    }
+    // Every room from none to one more than needed; also for files that are refused anyway.
+    let mut cut = f();
+    cut.truncate(80);
+    let mut longer = f();
+    longer.push(0);
+    let mut unscripted = e();
+    unscripted.truncate(27);
+    for file in [vec![], hex(MAGIC), e(), f(), rich(), cut, longer, unscripted] {
+        let (pairs, maps) = if file.len() > 100 { (24, 5) } else { (9, 4) };
+        for pairs in 0..=pairs {
+            for maps in 0..=maps {
+                sink.put("every room", (pairs, maps), &file)?;
+            }
+        }
+    }
+    Ok(())
+}
+
+pub fn long<W: Write>(sink: &mut Sink<W>) -> io::Result<()> {
+    // E with a proprietary pair that brings it to this length.
+    let filled = |length: usize| {
+        let mut file = e();
+        file.pop();
+        let before = file.len() + 2 + 5 + 1;
+        file.extend(hex("01fc"));
+        put_size(&mut file, (length - before) as u64, 2);
+        file.resize(length - 1, 0x31);
+        file.push(0);
+        file
+    };
+    let limit = records::LIMIT;
+    sink.put("length", AMPLE, &filled(limit - 1))?;
+    sink.put("length", AMPLE, &filled(limit))?;
+    sink.put("length", AMPLE, &filled(limit + 1))?;
+    sink.put("length", (0, 0), &filled(limit + 1))?;
+    sink.put("length", AMPLE, &vec![0; limit])?;
+    sink.put("length", AMPLE, &vec![0; limit + 1])?;
+    for file in forms(&[0xffff, 0x1_0000]) {
+        sink.put("form", AMPLE, &file)?;
+    }
+    // As many pairs and maps as there is room for, and one more.
+    for pairs in [records::PAIRS, records::PAIRS + 1] {
+        let mut file = e();
+        file.pop();
+        for number in 0..pairs - 4 {
+            file.extend(hex("03fc"));
+            file.extend((number as u16).to_be_bytes());
+            file.push(0);
+        }
+        file.push(0);
+        sink.put("pair room", AMPLE, &file)?;
+        sink.put("pair room", (u32::MAX, u32::MAX), &file)?;
+    }
+    for maps in [records::MAPS, records::MAPS + 1] {
+        let mut file = hex(MAGIC);
+        file.extend(hex(TX));
+        file.extend(hex("0104 03fd"));
+        file.extend((maps as u16 - 1).to_le_bytes());
+        file.extend(hex("01050100"));
+        file.extend(hex(VERSION));
+        file.extend(vec![0; maps]);
+        sink.put("map room", AMPLE, &file)?;
+        sink.put("map room", (u32::MAX, u32::MAX), &file)?;
+    }
+    Ok(())
+}
