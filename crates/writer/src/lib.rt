@@ -3,7 +3,7 @@ ghost use mathlib.Core.Path.{_≡_};
 ghost use mathlib.Core.List.{_∷_};
 ghost use Prim.Native.Nat.{_+_, _<_, _≤_};
 ghost use lib.ListN.{length};
-ghost use Rattle.format.specs.Numbers.{bytesOf};
+ghost use Rattle.format.specs.Numbers.{bytesOf, unsigned};
 ghost use Rattle.format.specs.Compact.{shortest};
 ghost use Rattle.writer.specs.Writes.{wrote, sizeLength};
 
@@ -76,4 +76,11 @@ pub fn put_bytes(buf: &mut [u8], at: usize, src: &[u8])
         buf[at + j] = src[j];
         j = j + 1;
     }
+}
+
+// The 32 bits of a signed number.
+pub fn bits_of(v: i32) -> u64
+    ensures { λ r. ⌜ r ≡ unsigned v ⌝ }
+{
+    if v < 0 { (v as i64 + 4294967296) as u64 } else { v as u64 }
 }
