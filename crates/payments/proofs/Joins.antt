@@ -15,8 +15,8 @@ use Rattle.format.specs.Lookups.{Length, asked}
 use Rattle.format.specs.Fields.{scanLookup, leafFits, musigLookup, inputParticipants, outputParticipants}
 use Rattle.format.specs.declared.Looked.{Looked}
 use Rattle.format.proofs.Tests.{and-left, and-right}
-use Rattle.copy.specs.Copies.{wrote}
-use Rattle.copy.proofs.Writes.{length-wrote, wrote-append}
+use Rattle.writer.specs.Writes.{wrote}
+use Rattle.writer.proofs.Writes.{length-wrote, wrote-append}
 use Rattle.lookup.specs.Fits.{heldOf, Within}
 use Rattle.lookup.specs.Walks.{lengthOf}
 use Rattle.lookup.specs.declared.Fit.{Fit}

@@ -91,9 +91,9 @@ fn joined_lookup(
     let mut key = [0u8; 98];
     let n = a.len() + b.len();
     let e = n + c.len();
-    copy::copy_at(&mut key, 0, a);
-    copy::copy_at(&mut key, a.len(), b);
-    copy::copy_at(&mut key, n, c);
+    writer::put_bytes(&mut key, 0, a);
+    writer::put_bytes(&mut key, a.len(), b);
+    writer::put_bytes(&mut key, n, c);
     lookup::asked(file, pairs, fit, true, wanted, key_type, &key[..e])
 }
 

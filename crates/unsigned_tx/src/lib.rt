@@ -8,4 +8,3 @@ pub enum Measure {
     Refused(PsbtError),
     Takes(u64),
 }
-

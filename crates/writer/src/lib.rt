@@ -82,5 +82,9 @@ pub fn put_bytes(buf: &mut [u8], at: usize, src: &[u8])
 pub fn bits_of(v: i32) -> u64
     ensures { λ r. ⌜ r ≡ unsigned v ⌝ }
 {
-    if v < 0 { (v as i64 + 4294967296) as u64 } else { v as u64 }
+    if v < 0 {
+        (v as i64 + 4294967296) as u64
+    } else {
+        v as u64
+    }
 }
