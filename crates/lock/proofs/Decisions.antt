@@ -82,7 +82,7 @@ top-greatest j a (b ∷ more) = by (ltb (a .number) (b .number)) (top-greatest j
     by true p q = q
     by false p q = p
 
-kinds-are : (fallback : Maybe) (hs ts : List D.Asked) → decideKinds fallback (topped Unasked hs) (topped Unasked ts) ≡ D.decideBy fallback hs ts
+kinds-are : (fallback : Maybe) (hs ts : List D.Asked) → decideKinds (D.orZero fallback) (topped Unasked hs) (topped Unasked ts) ≡ D.decideBy fallback hs ts
 unfolding decideKinds heightBy timeBy D.decideBy topped raised
 kinds-are fallback [] [] = refl
 kinds-are fallback (h ∷ hs) [] = rw (top-greatest (h .input) h hs)

@@ -74,10 +74,10 @@ pub ruleset judged = (height-is, height-great, time-small, time-is)
 pub zero-by : (m x : Maybe) (n : ℕ) → m ≡ x → n ≡ orZero x → n ≡ orZero m
 zero-by m x n e h = h ∙ sym (ap orZero e)
 
-module _ (fallback : Maybe) (h t : Kind) where
-  pub none-asked : h ≡ Unasked → t ≡ Unasked → (n : ℕ) → n ≡ orZero fallback → L.Fallback n ≡ decideKinds fallback h t
+module _ (fallback : ℕ) (h t : Kind) where
+  pub none-asked : h ≡ Unasked → t ≡ Unasked → L.Fallback fallback ≡ decideKinds fallback h t
   unfolding decideKinds
-  none-asked p q n e = ap L.Fallback e ∙ sym (rw (p, q))
+  none-asked p q = rw (p, q)
 
   pub time-asked : h ≡ Unasked → (m : Most) → t ≡ Asked m → (r : Lock) → r ≡ timeBy (m .number) (m .input) → r ≡ decideKinds fallback h t
   unfolding decideKinds
@@ -96,9 +96,9 @@ pub ruleset kinds = (none-asked, time-asked, height-asked, both-asked)
 
 -- with the faults
 module _ (fallback : Maybe) (a : Asks) where
-  pub no-fault : a .fault ≡ Nowhere → (r : Lock) → r ≡ decideKinds fallback (a .height) (a .time) → r ≡ decideAsks fallback a
+  pub no-fault : a .fault ≡ Nowhere → (n : ℕ) → n ≡ orZero fallback → (r : Lock) → r ≡ decideKinds n (a .height) (a .time) → r ≡ decideAsks fallback a
   unfolding decideAsks decideBy
-  no-fault p r e = e ∙ sym (ap (decideBy fallback a) p)
+  no-fault p n q r e = e ∙ ap (λ (k : ℕ). decideKinds k (a .height) (a .time)) q ∙ sym (ap (decideBy fallback a) p)
 
   pub a-fault : (i : ℕ) → a .fault ≡ Input i → L.Malformed i ≡ decideAsks fallback a
   unfolding decideAsks decideBy

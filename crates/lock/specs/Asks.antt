@@ -69,15 +69,15 @@ unfoldable pub timeBy : ℕ → ℕ → Lock
 timeBy n i = timeLock (record { number = n; input = i })
 
 -- by both kinds
-unfoldable pub decideKinds : Maybe → Kind → Kind → Lock
-decideKinds fallback Unasked Unasked = L.Fallback (orZero fallback)
+unfoldable pub decideKinds : ℕ → Kind → Kind → Lock
+decideKinds fallback Unasked Unasked = L.Fallback fallback
 decideKinds fallback (Asked h) Unasked = heightBy (h .number) (h .input)
 decideKinds fallback Unasked (Asked t) = timeBy (t .number) (t .input)
 decideKinds fallback (Asked h) (Asked t) = L.BothKinds (h .first) (t .first)
 
 -- by all
 unfoldable pub decideBy : Maybe → Asks → Fault → Lock
-decideBy fallback a Nowhere = decideKinds fallback (a .height) (a .time)
+decideBy fallback a Nowhere = decideKinds (orZero fallback) (a .height) (a .time)
 decideBy fallback a (Input i) = L.Malformed i
 
 unfoldable pub decideAsks : Maybe → Asks → Lock

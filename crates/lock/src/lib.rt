@@ -211,14 +211,12 @@ fn time_lock(number: u32, input: u64) -> Lock
 }
 
 // Not both kinds; the greatest; the fallback only where nothing is asked for.
-fn decide_kinds(fallback: Maybe, height: Kind, time: Kind) -> Lock
+fn decide_kinds(fallback: u32, height: Kind, time: Kind) -> Lock
     ensures { λ r. ⌜ r ≡ decideKinds fallback height time ⌝ }
 {
     match height {
         Kind::Unasked => match time {
-            Kind::Unasked => Lock::Fallback {
-                number: or_zero(fallback),
-            },
+            Kind::Unasked => Lock::Fallback { number: fallback },
             Kind::Asked(t) => time_lock(t.number, t.input),
         },
         Kind::Asked(h) => match time {
@@ -239,7 +237,7 @@ fn decide(fallback: Maybe, asks: Asks) -> Lock
     let height = asks.height;
     let time = asks.time;
     match fault {
-        Fault::Nowhere => decide_kinds(fallback, height, time),
+        Fault::Nowhere => decide_kinds(or_zero(fallback), height, time),
         Fault::Input(input) => Lock::Malformed { input },
     }
 }

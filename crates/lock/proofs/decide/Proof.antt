@@ -11,6 +11,7 @@ decide-spec =
     (tie.spec
     (λ c. search (needs, rules))
     (λ c κs. search (needs, rules))
+    (λ c κs. search (needs, rules))
     (λ c. search (needs, rules))
     (λ c. search (needs, rules))
     (λ c. search (needs, rules)))

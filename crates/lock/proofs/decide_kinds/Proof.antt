@@ -11,7 +11,6 @@ decide-kinds-spec =
     (tie.spec
     (λ c. search (needs, kinds))
     (λ c. search (needs, kinds))
-    (λ c κs. search (needs, kinds))
     (λ c. search (needs, kinds))
     (λ c κs. search (needs, kinds))
     (λ c. search (needs, kinds))
