@@ -20,7 +20,7 @@ use Rattle.format.specs.declared.Psbt.{Psbt}
 use Rattle.format.proofs.Numbers.{All, length-bytesOf}
 use Rattle.format.proofs.Tests.{pick-by, never-true, and-left, and-right}
 use Rattle.writer.specs.Writes.{wrote, sizeLength}
-use Rattle.writer.proofs.Writes.{wrote-then, wrote-none}
+use Rattle.writer.proofs.Writes.{wrote-append, wrote-then, wrote-none}
 use Rattle.unsigned_tx.specs.Walks.{bytesIn, isThere, inputOk, inputBytes, inputsBytes, inputLength, scripted, allScripted, scriptBytes, outBytes, outsBytes, outLength, outsLength, greatest, capped, measureBy, outMeasure, moreBy, outsMeasure, fixedLength, Put, put, putInput, putInputs, putOutput, putOutputs, putLock, putRest, putTx, txBytes}
 use Rattle.unsigned_tx.specs.declared.Measure.{Measure}
 use Rattle.unsigned_tx.specs.declared.Measure.the-variants.{Refused, Takes}
@@ -297,3 +297,75 @@ put-inputs (x ∷ xs) k h B at =
     rw (put-input x (k .0) a B at)
     (put-inputs xs (k .1) (and-right (inputOk x) (every inputOk xs) h) (wrote B at (inputBytes x)) (at + inputLength)
     ∙ ap₂ put (rw length-append (omega (arith, j))) (wrote-then B _ _ at (at + inputLength) (inputBytes x) (inputsBytes xs) refl (omega (arith, j)) refl))
+
+-- an output, likewise
+module _ (a : Sized) (k : SizedTo 8 a) (h : isThere a ≡ true) (s : List ℕ) where
+  amount-long : length (bytesIn a) ≡ 8
+  amount-long = there-long 8 a k h
+
+  out-long : length (outBytes a s) ≡ outLength s
+  unfolding outBytes outLength sizeLength
+  out-long = rw (length-append, length-append) (omega (arith, amount-long))
+
+  put-output : (B : List ℕ) (at : ℕ) → putOutput B at a s ≡ wrote B at (outBytes a s)
+  unfolding putOutput outBytes sizeLength
+  put-output B at =
+      let two : wrote (wrote B at (bytesIn a)) (at + 8) (shortest (length s)) ≡ wrote B at (bytesIn a ++ shortest (length s))
+          = wrote-then B _ _ at (at + 8) (bytesIn a) (shortest (length s)) refl (omega (arith, amount-long)) refl in
+      wrote-then B _ _ at (at + 8 + length (shortest (length s))) (bytesIn a ++ shortest (length s)) s two (rw length-append (omega (arith, amount-long))) refl
+      ∙ ap (wrote B at) (append-assoc (bytesIn a) (shortest (length s)) s)
+
+outs-long : (os : List Out) (n k : ℕ) → All SizedOut os → outsMeasure os n ≡ Takes k → length (outsBytes os) ≡ outsLength os
+unfolding outsMeasure outMeasure outsBytes outsLength
+outs-long [] n k a h = refl
+outs-long (o ∷ os) n k a h =
+    more-takes (outsMeasure os) n k (measureBy (o .amount) (o .script)) h
+    (λ w q r.
+    let i = outs-long os (capped (n + w)) k (a .1) r in
+    let j = out-long (o .amount) (a .0 .amount=) (measure-is (o .amount) (o .script) w q .1) (scriptBytes (o .script)) in
+    rw length-append (omega (arith, i, j)))
+
+put-outputs : (os : List Out) (n k : ℕ) → All SizedOut os → outsMeasure os n ≡ Takes k → (B : List ℕ) (at : ℕ)
+    → putOutputs B at os ≡ put (at + length (outsBytes os)) (wrote B at (outsBytes os))
+unfolding outsMeasure outMeasure putOutputs outsBytes
+put-outputs [] n k a h B at = let z : at + 0 ≡ at = omega arith in rw (z, wrote-none B at)
+put-outputs (o ∷ os) n k a h B at =
+    more-takes (outsMeasure os) n k (measureBy (o .amount) (o .script)) h
+    (λ w q r.
+    let t : isThere (o .amount) ≡ true = measure-is (o .amount) (o .script) w q .1 in
+    let j = out-long (o .amount) (a .0 .amount=) t (scriptBytes (o .script)) in
+    rw (put-output (o .amount) (a .0 .amount=) t (scriptBytes (o .script)) B at)
+    (put-outputs os (capped (n + w)) k (a .1) r (wrote B at (outBytes (o .amount) (scriptBytes (o .script)))) (at + outLength (scriptBytes (o .script)))
+    ∙ ap₂ put (rw length-append (omega (arith, j)))
+    (wrote-then B _ _ at (at + outLength (scriptBytes (o .script))) (outBytes (o .amount) (scriptBytes (o .script))) (outsBytes os) refl (omega (arith, j)) refl)))
+
+-- the whole transaction has the length that was measured, and is written as its bytes are
+module _ (s : Psbt) (ins : List In) (outs : List Out) (n m k : ℕ) (a : All SizedIn ins) (b : All SizedOut outs)
+    (h : every inputOk ins ≡ true) (q : outsMeasure outs m ≡ Takes k) where
+  pub tx-long : length (txBytes s ins outs n) ≡ fixedLength (length ins) (length outs) + outsLength outs
+  unfolding txBytes fixedLength sizeLength
+  tx-long =
+      rw (length-append, length-append, length-append, length-append, length-append)
+      (omega (arith, inputs-long ins a h, outs-long outs m k b q, length-bytesOf 4 (unsigned (s .«tx_version»)), length-bytesOf 4 n))
+
+  put-rest : (B : List ℕ) (at : ℕ) → putRest outs n (put at B) ≡ wrote B at (shortest (length outs) ++ (outsBytes outs ++ bytesOf 4 n))
+  unfolding putRest putLock sizeLength
+  put-rest B at =
+      ap (putLock n) (put-outputs outs m k b q (wrote B at (shortest (length outs))) (at + length (shortest (length outs))))
+      ∙ ap (λ (l : List ℕ). wrote l (at + length (shortest (length outs)) + length (outsBytes outs)) (bytesOf 4 n)) (wrote-append B at (shortest (length outs)) (outsBytes outs))
+      ∙ wrote-then B _ _ at (at + length (shortest (length outs)) + length (outsBytes outs)) (shortest (length outs) ++ outsBytes outs) (bytesOf 4 n) refl (rw length-append (omega arith)) refl
+      ∙ ap (wrote B at) (append-assoc (shortest (length outs)) (outsBytes outs) (bytesOf 4 n))
+
+  pub put-tx : (B : List ℕ) → putTx B s ins outs n ≡ wrote B 0 (txBytes s ins outs n)
+  unfolding putTx txBytes sizeLength
+  put-tx B =
+      let v : List ℕ = bytesOf 4 (unsigned (s .«tx_version»)) in
+      let c : List ℕ = shortest (length ins) in
+      let l : length v ≡ 4 = length-bytesOf 4 (unsigned (s .«tx_version»)) in
+      let front : wrote (wrote B 0 v) 4 c ≡ wrote B 0 (v ++ c) = wrote-then B _ _ 0 4 v c refl (omega (arith, l)) refl in
+      let body : wrote (wrote (wrote B 0 v) 4 c) (4 + length c) (inputsBytes ins) ≡ wrote B 0 ((v ++ c) ++ inputsBytes ins)
+          = wrote-then B _ _ 0 (4 + length c) (v ++ c) (inputsBytes ins) front (rw length-append (omega (arith, l))) refl in
+      ap (putRest outs n) (put-inputs ins a h (wrote (wrote B 0 v) 4 c) (4 + length c))
+      ∙ put-rest (wrote (wrote (wrote B 0 v) 4 c) (4 + length c) (inputsBytes ins)) (4 + length c + length (inputsBytes ins))
+      ∙ wrote-then B _ _ 0 (4 + length c + length (inputsBytes ins)) ((v ++ c) ++ inputsBytes ins) _ body (rw (length-append, length-append) (omega (arith, l))) refl
+      ∙ ap (wrote B 0) (append-assoc (v ++ c) (inputsBytes ins) _)
