@@ -1,1 +1,2 @@
 pub mod Strikes
+pub mod Newers
