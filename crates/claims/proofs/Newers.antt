@@ -14,7 +14,7 @@ use Rattle.format.specs.declared.Order.the-variants.{Below}
 use Rattle.format.proofs.Numbers.{All}
 use Rattle.format.proofs.Compact.{Spells}
 use Rattle.format.proofs.Keys.{order-trans}
-use Rattle.laws.specs.Fine.{Framed, Rises, RisesFile, Keeps, Fine, FineMap, FineFile}
+use Rattle.laws.specs.Fine.{Framed, Rises, RisesFile, Keeps, FineMap, FineFile}
 use Rattle.laws.proofs.Files.{reading-of, reading-is}
 use Rattle.fields.proofs.Free.{rule-free}
 use Rattle.claims.specs.Newer.{Added, nil, keep, add, AddedMap, AddedMaps, nils, maps, AddedFile, strike, strikeMap, struck, asks, Alike}
@@ -151,7 +151,7 @@ up d h f r s = record {
 alike-by : (x c d : Content) → Alike x c → Alike x d → Alike c d
 alike-by x c d a b =
     alike-of c d (sym (a .same-report) ∙ b .same-report) (sym (a .same-kinds) ∙ b .same-kinds)
-    (λ m key l. let k = ap (λ (ks : List ℕ). asks m ks key) (a .same-kinds) ∙ l in sym (a .same-values m key k) ∙ b .same-values m key k)
+    (λ m key l ok n. let k = ap (λ (ks : List ℕ). asks m ks key) (a .same-kinds) ∙ l in sym (a .same-lookups m key k ok n) ∙ b .same-lookups m key k ok n)
     (λ m t l. let k = ap (λ (ks : List ℕ). asks m ks (keyOf t [])) (a .same-kinds) ∙ l in sym (a .same-lists m t k) ∙ b .same-lists m t k)
     (sym (a .same-ins) ∙ b .same-ins) (sym (a .same-outs) ∙ b .same-outs)
 

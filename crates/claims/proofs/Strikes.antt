@@ -7,19 +7,20 @@ use borrow.Author.Tests.{eqb-true}
 use lib.Dec.{eqb}
 use Rattle.format.specs.Tests.{pick, keepIf, only}
 use Rattle.format.specs.Keys.{typeOf, keyOf, same}
-use Rattle.format.specs.Rules.{GLOBAL, INPUT, OUTPUT, span, within, listedTypes, listed, andThen}
-use Rattle.format.specs.Content.{Pair, Map, Content, mapsOf, found, find, field, psbtOf, globalRule, outputRule, outputsRule}
+use Rattle.format.specs.Rules.{GLOBAL, INPUT, OUTPUT, span, within, listedTypes, listed}
+use Rattle.format.specs.Content.{Pair, Map, Content, mapsOf, Found, found, find, field, psbtOf, globalRule, outputRule, outputsRule}
 use Rattle.format.specs.Tables.{View, shows}
-use Rattle.format.specs.Lookups.{listing}
+use Rattle.format.specs.Lookups.{Length, listing}
 use Rattle.format.specs.Locks.{In, inOf, decide}
 use Rattle.format.specs.Scripts.{Out, outOf, setGiven}
 use Rattle.format.specs.Transaction.{transaction}
+use Rattle.format.specs.declared.PsbtError.the-variants.{BadValue}
 use Rattle.format.specs.declared.Psbt.{Psbt}
 use Rattle.format.proofs.Tests.{clash, no-by}
 use Rattle.format.proofs.Keys.{same-is}
 use Rattle.laws.specs.Shown.{bare, viewBy}
-use Rattle.laws.specs.Found.{findIn}
-use Rattle.claims.specs.Newer.{strike, strikeMap, struck, kinds, asks, listIn, reportOf, insOf, outsOf, Alike}
+use Rattle.claims.specs.Answers.{refuses, ofLengthIn, lookIn, listIn}
+use Rattle.claims.specs.Newer.{strike, strikeMap, struck, kinds, asks, reportOf, insOf, outsOf, Alike}
 
 -- the value of a key of a listed type
 find-at : (k : ℕ) (key : List ℕ) (p : Pair) (ps qs : List Pair) (t : Bool) → listed k (p .key) ≡ t → listed k key ≡ true
@@ -136,13 +137,13 @@ module _ {A : Type 0} (g : View → A) (key : List ℕ) (h : (k : ℕ) (ps : Lis
 
 -- alike by what lock, scripts and transaction are made of
 pub alike-of : (c d : Content) → reportOf c ≡ reportOf d → kinds c ≡ kinds d
-    → ((m : ℕ) (key : List ℕ) → asks m (kinds c) key ≡ true → findIn key (viewBy m (mapsOf c)) ≡ findIn key (viewBy m (mapsOf d)))
+    → ((m : ℕ) (key : List ℕ) → asks m (kinds c) key ≡ true → (ok : Bool) (l : Length) → lookIn ok l key (viewBy m (mapsOf c)) ≡ lookIn ok l key (viewBy m (mapsOf d)))
     → ((m t : ℕ) → asks m (kinds c) (keyOf t []) ≡ true → listIn t (viewBy m (mapsOf c)) ≡ listIn t (viewBy m (mapsOf d)))
     → insOf c ≡ insOf d → outsOf c ≡ outsOf d → Alike c d
 alike-of c d r k v l i o = record {
   same-report = r;
   same-kinds = k;
-  same-values = v;
+  same-lookups = v;
   same-lists = l;
   same-ins = i;
   same-outs = o;
@@ -153,9 +154,9 @@ alike-of c d r k v l i o = record {
 
 -- a content answers as its listed pairs alone
 pub alike-struck : (c : Content) → Alike (struck c) c
-unfolding findIn listIn
+unfolding lookIn listIn
 alike-struck c =
     alike-of (struck c) c (report-strike c) (kinds-strike c)
-    (λ m key l. view-strike (findIn key) key (λ k ps a. find-strike k key ps a) c m (ap (λ (ks : List ℕ). asks m ks key) (sym (kinds-strike c)) ∙ l))
+    (λ m key l ok n. view-strike (lookIn ok n key) key (λ k ps a. ap (λ (x : Found). pick ok (ofLengthIn n x) (refuses BadValue)) (find-strike k key ps a)) c m (ap (λ (ks : List ℕ). asks m ks key) (sym (kinds-strike c)) ∙ l))
     (λ m t l. view-strike (listIn t) (keyOf t []) (λ k ps a. ap shows (listing-strike k t ps a)) c m (ap (λ (ks : List ℕ). asks m ks (keyOf t [])) (sym (kinds-strike c)) ∙ l))
     (ins-strike c) (outs-strike c)

@@ -7,8 +7,7 @@ use Rattle.format.specs.Tests.{only}
 use Rattle.format.specs.Keys.{keyOf}
 use Rattle.format.specs.Rules.{GLOBAL, INPUT, OUTPUT, listed}
 use Rattle.format.specs.Content.{Pair, Map, Content, mapsOf, psbtOf}
-use Rattle.format.specs.Tables.{View, hides, shows}
-use Rattle.format.specs.Lookups.{listing}
+use Rattle.format.specs.Lookups.{Length}
 use Rattle.format.specs.Locks.{In, inOf, decide}
 use Rattle.format.specs.Scripts.{Out, outOf, Given, setGiven}
 use Rattle.format.specs.Transaction.{transaction}
@@ -16,7 +15,7 @@ use Rattle.format.specs.declared.Psbt.{Psbt}
 use Rattle.format.specs.declared.State.{State}
 use Rattle.laws.specs.Fine.{Framed}
 use Rattle.laws.specs.Shown.{viewBy}
-use Rattle.laws.specs.Found.{findIn}
+use Rattle.claims.specs.Answers.{lookIn, listIn}
 
 -- qs is ps with framed pairs added whose types are not listed for maps of kind k
 pub data Added (k : ℕ) : List Pair → List Pair → Type 0 where
@@ -62,11 +61,6 @@ asks m [] key = true
 asks zero (k ∷ ks) key = listed k key
 asks (suc m) (k ∷ ks) key = asks m ks key
 
--- the pairs of a type in a map that shows its pairs, or the refusal
-unfoldable pub listIn : ℕ → View → View
-listIn t (hides e) = hides e
-listIn t (shows ps) = shows (listing t ps)
-
 -- what is reported of a content
 unfoldable pub reportOf : Content → Psbt
 reportOf c = psbtOf (c .global .pairs)
@@ -79,11 +73,11 @@ insOf c = map (λ (m : Map). inOf (m .pairs)) (c .ins)
 unfoldable pub outsOf : Content → List Out
 outsOf c = map (λ (m : Map). outOf (m .pairs)) (c .outs)
 
--- whoever knows the listed types alone is answered the same of both: report, maps, values, listings, lock, scripts and transaction
+-- whoever knows the listed types alone is answered the same of both: report, maps, lookups, listings, lock, scripts and transaction
 pub record Alike (c d : Content) : Type 0 where
   pub same-report : reportOf c ≡ reportOf d
   pub same-kinds : kinds c ≡ kinds d
-  pub same-values : (m : ℕ) (key : List ℕ) → asks m (kinds c) key ≡ true → findIn key (viewBy m (mapsOf c)) ≡ findIn key (viewBy m (mapsOf d))
+  pub same-lookups : (m : ℕ) (key : List ℕ) → asks m (kinds c) key ≡ true → (ok : Bool) (l : Length) → lookIn ok l key (viewBy m (mapsOf c)) ≡ lookIn ok l key (viewBy m (mapsOf d))
   pub same-lists : (m t : ℕ) → asks m (kinds c) (keyOf t []) ≡ true → listIn t (viewBy m (mapsOf c)) ≡ listIn t (viewBy m (mapsOf d))
   pub same-ins : insOf c ≡ insOf d
   pub same-outs : outsOf c ≡ outsOf d
