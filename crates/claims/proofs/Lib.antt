@@ -1,2 +1,3 @@
 pub mod Strikes
 pub mod Newers
+pub mod Calls
