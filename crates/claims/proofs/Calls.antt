@@ -33,7 +33,7 @@ use Rattle.laws.proofs.Shown.{held-shows, view-is}
 use Rattle.laws.proofs.Found.{find-bare}
 use Rattle.claims.specs.Answers.{Answer, refuses, gives, answerAt, ofLengthIn, lookIn, listIn}
 use Rattle.claims.specs.Newer.{AddedFile, struck, kinds, asks, reportOf, insOf, outsOf, Alike}
-use Rattle.claims.specs.Calls.{SameCalls}
+use Rattle.claims.specs.Calls.{ParsesTo, SameCalls}
 use Rattle.claims.proofs.Newers.{newer, older}
 
 -- a lookup by place answers what is shown, as entries lie in the file
@@ -201,3 +201,23 @@ module _ (f : List ℕ) (c : Content) (P M : List ℕ) (e : reading f ≡ accept
     scripts = λ x buffer t T. by-report (λ s r. setBy buffer t T x r);
     transaction = λ t T B. by-report (λ s r. written t B (txReported s t T r));
   }
+
+room-parses : (f : List ℕ) (c : Content) (P M : List ℕ) → reading f ≡ accepted c → Room c P M → ParsesTo f P M c
+unfolding reportOf
+room-parses f c P M e r = parse-is f c P M e r
+
+-- with room for each, both files parse, and every call of a listed type answers the same: pairs added
+pub newer-calls : (f : List ℕ) (c d : Content) → reading f ≡ accepted c → AddedFile c d → RisesFile d → length (bytes d) ≤ limit
+    → (P M Q N : List ℕ) → Room c P M → Room d Q N
+    → ParsesTo f P M c × ParsesTo (bytes d) Q N d × SameCalls (kinds c) f (pairTable c P) (mapTable c M) (reportOf c) (bytes d) (pairTable d Q) (mapTable d N) (reportOf d)
+newer-calls f c d e a r s P M Q N x y =
+    let w = newer f c d e a r s in
+    (room-parses f c P M e x, room-parses (bytes d) d Q N (w .0) y, same-calls f c P M e (bytes d) d Q N (w .0) (w .1))
+
+-- and pairs struck
+pub older-calls : (f : List ℕ) (c : Content) → reading f ≡ accepted c → (P M Q N : List ℕ) → Room c P M → Room (struck c) Q N
+    → ParsesTo f P M c × ParsesTo (bytes (struck c)) Q N (struck c)
+    × SameCalls (kinds (struck c)) (bytes (struck c)) (pairTable (struck c) Q) (mapTable (struck c) N) (reportOf (struck c)) f (pairTable c P) (mapTable c M) (reportOf c)
+older-calls f c e P M Q N x y =
+    let w = older f c e in
+    (room-parses f c P M e x, room-parses (bytes (struck c)) (struck c) Q N (w .0) y, same-calls (bytes (struck c)) (struck c) Q N (w .0) f c P M e (w .1))
