@@ -9,11 +9,10 @@ use lib.Dec.{leb, ltb}
 use lib.ListN.{length, take, drop, length-take, length-drop}
 use Rattle.format.specs.Tests.{pick, every}
 use Rattle.format.specs.Keys.{keyOf, same}
-use Rattle.format.specs.Rules.{GLOBAL, INPUT, OUTPUT, listed}
-use Rattle.format.specs.Content.{Pair, Map, Content, mapsOf, bytes, found, find, field, counted, psbtOf}
+use Rattle.format.specs.Rules.{INPUT, OUTPUT, listed}
+use Rattle.format.specs.Content.{Pair, Map, Content, mapsOf, bytes, found, find, field, psbtOf}
 use Rattle.format.specs.Reading.{limit, accepted, reading}
 use Rattle.format.specs.Entries.{keyIn, valueIn, shown}
-use Rattle.format.specs.Parse.{out, parsed}
 use Rattle.format.specs.Tables.{inFile, Held, no, holds, held, heldInput, heldOutput, mapsReported, View, viewOf, view, gathered, gatherBy, gather}
 use Rattle.format.specs.Lookups.{place, Length, lengthFits, ofLength, asked}
 use Rattle.format.specs.Locks.{In, inOf}
@@ -23,15 +22,14 @@ use Rattle.format.specs.declared.PsbtError.the-variants.{BadValue, OutOfRange}
 use Rattle.format.specs.declared.Psbt.{Psbt}
 use Rattle.format.specs.declared.PairEntry.{PairEntry}
 use Rattle.format.specs.declared.Looked.the-variants.{Refused, At}
-use Rattle.format.specs.declared.Parsed.the-variants.{Accepted}
 use Rattle.format.proofs.Tests.{pick-ap, and-left, and-right}
 use Rattle.laws.specs.Fine.{RisesFile}
-use Rattle.laws.specs.Shown.{bare, viewBy, pairsIn, pairTable, mapTable, Room}
+use Rattle.laws.specs.Shown.{bare, viewBy, pairTable, mapTable, Room}
 use Rattle.laws.proofs.Files.{reading-is, one-plus-counts}
 use Rattle.laws.proofs.Parsed.{parse-is}
 use Rattle.laws.proofs.Shown.{held-shows, view-is}
 use Rattle.laws.proofs.Found.{find-bare}
-use Rattle.claims.specs.Answers.{Answer, refuses, gives, answerAt, ofLengthIn, lookIn, listIn}
+use Rattle.claims.specs.Answers.{Answer, refuses, answerAt, ofLengthIn, lookIn, listIn}
 use Rattle.claims.specs.Newer.{AddedFile, struck, kinds, asks, reportOf, insOf, outsOf, Alike}
 use Rattle.claims.specs.Calls.{ParsesTo, SameCalls}
 use Rattle.claims.proofs.Newers.{newer, older}
