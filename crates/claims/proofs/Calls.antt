@@ -1,0 +1,221 @@
+-- Calls on the tables of two files with alike contents answer alike.
+use mathlib.Core.Path.{_≡_, refl, sym, _∙_, ap, ap₂, subst}
+use mathlib.Core.List.{List, [], _∷_, _++_, map}
+use mathlib.Core.Bool.{Bool, true, false, _&&_}
+use Prim.Native.Nat.{ℕ, zero, suc, _+_, _≤_, _<_}
+use native.Mathlib.Omega.{arith}
+use borrow.Author.Tests.{leb-true, ltb-true}
+use lib.Dec.{leb, ltb}
+use lib.ListN.{length, take, drop, length-take, length-drop}
+use Rattle.format.specs.Tests.{pick, every}
+use Rattle.format.specs.Keys.{keyOf, same}
+use Rattle.format.specs.Rules.{INPUT, OUTPUT, listed}
+use Rattle.format.specs.Content.{Pair, Map, Content, mapsOf, bytes, found, find, field, psbtOf}
+use Rattle.format.specs.Reading.{limit, accepted, reading}
+use Rattle.format.specs.Entries.{keyIn, valueIn, shown}
+use Rattle.format.specs.Tables.{inFile, Held, no, holds, held, heldInput, heldOutput, mapsReported, View, viewOf, view, gathered, gatherBy, gather}
+use Rattle.format.specs.Lookups.{place, Length, lengthFits, ofLength, asked}
+use Rattle.format.specs.Locks.{In, inOf}
+use Rattle.format.specs.Scripts.{Out, outOf, Reported, reports, reportedBy, reported, setBy, setScripts}
+use Rattle.format.specs.Transaction.{txReported, written, unsignedTx, lockBy, lockDecided}
+use Rattle.format.specs.declared.PsbtError.the-variants.{BadValue, OutOfRange}
+use Rattle.format.specs.declared.Psbt.{Psbt}
+use Rattle.format.specs.declared.PairEntry.{PairEntry}
+use Rattle.format.specs.declared.Looked.the-variants.{Refused, At}
+use Rattle.format.proofs.Tests.{pick-ap, and-left, and-right}
+use Rattle.laws.specs.Fine.{RisesFile}
+use Rattle.laws.specs.Shown.{bare, viewBy, pairTable, mapTable, Room}
+use Rattle.laws.proofs.Files.{reading-is, one-plus-counts}
+use Rattle.laws.proofs.Parsed.{parse-is}
+use Rattle.laws.proofs.Shown.{held-shows, view-is}
+use Rattle.laws.proofs.Found.{find-bare}
+use Rattle.claims.specs.Answers.{Answer, refuses, answerAt, ofLengthIn, lookIn, listIn}
+use Rattle.claims.specs.Newer.{AddedFile, struck, kinds, asks, reportOf, insOf, outsOf, Alike}
+use Rattle.claims.specs.Calls.{ParsesTo, SameCalls}
+use Rattle.claims.proofs.Newers.{newer, older}
+
+-- a lookup by place answers what is shown, as entries lie in the file
+value-is : (f : List ℕ) (l : Length) (e : PairEntry) → inFile f e ≡ true → answerAt f (ofLength l (At (e .value) (e .vlen))) ≡ ofLengthIn l (found (valueIn f e))
+unfolding answerAt ofLength ofLengthIn valueIn inFile
+value-is f l e h =
+    let w : e .value + e .vlen ≤ length f =
+    leb-true _ _ (and-left (leb (e .value + e .vlen) (length f)) (ltb 0 (e .klen)) (and-right (leb (e .key + e .klen) (length f)) (leb (e .value + e .vlen) (length f) && ltb 0 (e .klen)) h)) in
+    let n : length (take (e .vlen) (drop (e .value) f)) ≡ e .vlen = rw (length-take, length-drop) (omega arith) in
+    rw n (pick-ap (answerAt f) (lengthFits l (e .vlen)) (At (e .value) (e .vlen)) (Refused BadValue))
+
+place-is : (f : List ℕ) (l : Length) (key : List ℕ) (es : List PairEntry) → every (inFile f) es ≡ true
+    → answerAt f (ofLength l (place f key es)) ≡ ofLengthIn l (find key (map (shown f) es))
+unfolding place find shown every answerAt ofLength ofLengthIn
+place-is f l key [] h = refl
+place-is f l key (e ∷ es) h =
+    let t = same key (keyIn f e) in
+    pick-ap (λ y. answerAt f (ofLength l y)) t _ _
+    ∙ ap₂ (pick t) (value-is f l e (and-left (inFile f e) (every (inFile f) es) h)) (place-is f l key es (and-right (inFile f e) (every (inFile f) es) h))
+    ∙ sym (pick-ap (ofLengthIn l) t _ _)
+
+asked-is : (f P M : List ℕ) (s : Psbt) (m : ℕ) (key : List ℕ) (ok : Bool) (l : Length) (h : Held) → held f P M s m ≡ h → answerAt f (asked ok l f key h) ≡ lookIn ok l key (viewOf f h)
+unfolding asked lookIn viewOf answerAt
+asked-is f P M s m key ok l (no e) q = refl
+asked-is f P M s m key ok l (holds es) q =
+    pick-ap (answerAt f) ok _ _ ∙ ap (λ (x : Answer). pick ok x (refuses BadValue)) (place-is f l key es (held-shows f P M s m es q .0))
+
+-- what a transaction takes from a map asks nothing of the spelling
+field-bare : (t : ℕ) (ps : List Pair) → field t (map bare ps) ≡ field t ps
+unfolding field
+field-bare t ps = find-bare (keyOf t []) ps
+
+in-bare : (ps : List Pair) → inOf (map bare ps) ≡ inOf ps
+unfolding inOf
+in-bare ps = rw (field-bare 0x0e ps, field-bare 0x0f ps, field-bare 0x10 ps, field-bare 0x11 ps, field-bare 0x12 ps)
+
+out-bare : (ps : List Pair) → outOf (map bare ps) ≡ outOf ps
+unfolding outOf
+out-bare ps = rw (field-bare 0x03 ps, field-bare 0x04 ps)
+
+-- all maps, gathered
+abbrev pairsOf : Map → List Pair
+pairsOf m = map bare (m .pairs)
+
+gather-is : (v : ℕ → View) (ms : List Map) (i : ℕ) → ((j k : ℕ) → k ≡ i + j → v k ≡ viewBy j ms) → gather v i (length ms) ≡ gathered (map pairsOf ms)
+unfolding gather gatherBy viewBy
+gather-is v [] i h = refl
+gather-is v (m ∷ ms) i h = rw (h 0 i (omega arith), gather-is v ms (i + 1) (λ j k e. h (suc j) k (omega arith)))
+
+ins-are : (ms ns : List Map) → map inOf (take (length ms) (map pairsOf (ms ++ ns))) ≡ map (λ (m : Map). inOf (m .pairs)) ms
+ins-are [] ns = refl
+ins-are (m ∷ ms) ns = ap₂ {C = List In} (λ x xs. x ∷ xs) (in-bare (m .pairs)) (ins-are ms ns)
+
+outs-are : (ms ns : List Map) → map outOf (drop (length ms) (map pairsOf (ms ++ ns))) ≡ map (λ (m : Map). outOf (m .pairs)) ns
+outs-are [] [] = refl
+outs-are [] (n ∷ ns) = ap₂ {C = List Out} (λ x xs. x ∷ xs) (out-bare (n .pairs)) (outs-are [] ns)
+outs-are (m ∷ ms) ns = outs-are ms ns
+
+-- the test of an arm may be used in it
+arm : {A : Type 0} (t : Bool) (x y z : A) → (t ≡ true → x ≡ y) → pick t x z ≡ pick t y z
+arm true x y z h = h refl
+arm false x y z h = refl
+
+-- a listed type of an input is asked of the inputs, one of an output behind them
+asks-in : (key : List ℕ) (ms : List Map) (ks : List ℕ) (i : ℕ) → listed INPUT key ≡ true → i < length ms → asks i (map (λ (x : Map). INPUT) ms ++ ks) key ≡ true
+unfolding asks
+asks-in key [] ks i h l = absurd (omega arith)
+asks-in key (m ∷ ms) ks zero h l = h
+asks-in key (m ∷ ms) ks (suc i) h l = asks-in key ms ks i h (omega arith)
+
+asks-out : (key : List ℕ) (ms ns : List Map) (i : ℕ) → listed OUTPUT key ≡ true → length ms ≤ i → asks i (map (λ (x : Map). INPUT) ms ++ map (λ (x : Map). OUTPUT) ns) key ≡ true
+unfolding asks
+asks-out key [] [] i h l = refl
+asks-out key [] (n ∷ ns) zero h l = h
+asks-out key [] (n ∷ ns) (suc i) h l = asks-out key [] ns i h (omega arith)
+asks-out key (m ∷ ms) ns zero h l = absurd (omega arith)
+asks-out key (m ∷ ms) ns (suc i) h l = asks-out key ms ns i h (omega arith)
+
+-- an accepted file's tables answer as its content
+module _ (f : List ℕ) (c : Content) (P M : List ℕ) (e : reading f ≡ accepted c) where
+  table-lookup : (m : ℕ) (key : List ℕ) (ok : Bool) (l : Length)
+      → answerAt f (asked ok l f key (held f (pairTable c P) (mapTable c M) (reportOf c) m)) ≡ lookIn ok l key (viewBy m (mapsOf c))
+  unfolding reportOf view
+  table-lookup m key ok l = asked-is f (pairTable c P) (mapTable c M) (reportOf c) m key ok l _ refl ∙ ap (lookIn ok l key) (view-is f c P M e m)
+
+  table-input : (i : ℕ) (key : List ℕ) (ok : Bool) (l : Length) → answerAt f (asked ok l f key (heldInput f (pairTable c P) (mapTable c M) (reportOf c) i))
+      ≡ pick (ltb i ((reportOf c) .inputs)) (lookIn ok l key (viewBy (1 + i) (mapsOf c))) (refuses OutOfRange)
+  unfolding heldInput asked answerAt
+  table-input i key ok l =
+      pick-ap (λ (h : Held). answerAt f (asked ok l f key h)) (ltb i ((reportOf c) .inputs)) _ _
+      ∙ ap (λ (x : Answer). pick (ltb i ((reportOf c) .inputs)) x (refuses OutOfRange)) (table-lookup (1 + i) key ok l)
+
+  table-output : (i : ℕ) (key : List ℕ) (ok : Bool) (l : Length) → answerAt f (asked ok l f key (heldOutput f (pairTable c P) (mapTable c M) (reportOf c) i))
+      ≡ pick (ltb i ((reportOf c) .outputs)) (lookIn ok l key (viewBy (1 + ((reportOf c) .inputs + i)) (mapsOf c))) (refuses OutOfRange)
+  unfolding heldOutput asked answerAt
+  table-output i key ok l =
+      pick-ap (λ (h : Held). answerAt f (asked ok l f key h)) (ltb i ((reportOf c) .outputs)) _ _
+      ∙ ap (λ (x : Answer). pick (ltb i ((reportOf c) .outputs)) x (refuses OutOfRange)) (table-lookup (1 + ((reportOf c) .inputs + i)) key ok l)
+
+  ins-count : (reportOf c) .inputs ≡ length (c .ins)
+  unfolding reportOf psbtOf
+  ins-count = sym (reading-is f c e .1 .ins#)
+
+  maps-count : mapsReported (reportOf c) ≡ length (mapsOf c)
+  unfolding reportOf
+  maps-count = sym (one-plus-counts f c e)
+
+  table-view : (j k : ℕ) → k ≡ 0 + j → view f (pairTable c P) (mapTable c M) (reportOf c) k ≡ viewBy j (mapsOf c)
+  unfolding reportOf
+  table-view j k q = let w : k ≡ j = omega arith in rw w (view-is f c P M e j)
+
+  split : reportedBy (length (c .ins)) (gathered (map pairsOf (mapsOf c))) ≡ reports (insOf c) (outsOf c)
+  unfolding reportedBy mapsOf insOf outsOf
+  split =
+      let n : 1 + length (c .ins) ≡ suc (length (c .ins)) = omega arith in
+      ap₂ reports (ins-are (c .ins) (c .outs)) (ap (λ (k : ℕ). map outOf (drop k (map pairsOf (mapsOf c)))) n ∙ outs-are (c .ins) (c .outs))
+
+  table-reported : reported (view f (pairTable c P) (mapTable c M) (reportOf c)) (reportOf c) ≡ reports (insOf c) (outsOf c)
+  unfolding reported
+  table-reported =
+      ap₂ (λ (n k : ℕ). reportedBy n (gather (view f (pairTable c P) (mapTable c M) (reportOf c)) 0 k)) ins-count maps-count
+      ∙ ap (reportedBy (length (c .ins))) (gather-is (view f (pairTable c P) (mapTable c M) (reportOf c)) (mapsOf c) 0 table-view)
+      ∙ split
+
+-- so where contents are alike, calls are
+module _ (f : List ℕ) (c : Content) (P M : List ℕ) (e : reading f ≡ accepted c) (g : List ℕ) (d : Content) (Q N : List ℕ) (k : reading g ≡ accepted d) (a : Alike c d) where
+  input-alike : (i : ℕ) (key : List ℕ) → listed INPUT key ≡ true → (ok : Bool) (l : Length)
+      → pick (ltb i ((reportOf c) .inputs)) (lookIn ok l key (viewBy (1 + i) (mapsOf c))) (refuses OutOfRange)
+      ≡ pick (ltb i ((reportOf d) .inputs)) (lookIn ok l key (viewBy (1 + i) (mapsOf d))) (refuses OutOfRange)
+  unfolding asks kinds
+  input-alike i key h ok l =
+      let n : 1 + i ≡ suc i = omega arith in
+      let w : (reportOf c) .inputs ≡ length (c .ins) = ins-count f c P M e in
+      arm (ltb i ((reportOf c) .inputs)) _ _ _
+      (λ q. let z : i < length (c .ins) = subst (λ (x : ℕ). i < x) w (ltb-true i _ q) in
+      a .same-lookups (1 + i) key (rw n (asks-in key (c .ins) _ i h z)) ok l)
+      ∙ ap (λ (s : Psbt). pick (ltb i (s .inputs)) (lookIn ok l key (viewBy (1 + i) (mapsOf d))) (refuses OutOfRange)) (a .same-report)
+
+  output-alike : (i : ℕ) (key : List ℕ) → listed OUTPUT key ≡ true → (ok : Bool) (l : Length)
+      → pick (ltb i ((reportOf c) .outputs)) (lookIn ok l key (viewBy (1 + ((reportOf c) .inputs + i)) (mapsOf c))) (refuses OutOfRange)
+      ≡ pick (ltb i ((reportOf d) .outputs)) (lookIn ok l key (viewBy (1 + ((reportOf d) .inputs + i)) (mapsOf d))) (refuses OutOfRange)
+  unfolding asks kinds
+  output-alike i key h ok l =
+      let r : ℕ = (reportOf c) .inputs in
+      let n : 1 + (r + i) ≡ suc (r + i) = omega arith in
+      let w : r ≡ length (c .ins) = ins-count f c P M e in
+      arm (ltb i ((reportOf c) .outputs)) _ _ _ (λ q. a .same-lookups (1 + (r + i)) key (rw n (asks-out key (c .ins) (c .outs) (r + i) h (omega arith))) ok l)
+      ∙ ap (λ (s : Psbt). pick (ltb i (s .outputs)) (lookIn ok l key (viewBy (1 + (s .inputs + i)) (mapsOf d))) (refuses OutOfRange)) (a .same-report)
+
+  -- what is a function of the report and of what all maps show
+  by-report : {A : Type 0} (F : Psbt → Reported → A) → F (reportOf c) (reported (view f (pairTable c P) (mapTable c M) (reportOf c)) (reportOf c))
+      ≡ F (reportOf d) (reported (view g (pairTable d Q) (mapTable d N) (reportOf d)) (reportOf d))
+  by-report F =
+      ap (F (reportOf c)) (table-reported f c P M e) ∙ (λ j. F (a .same-report j) (reports (a .same-ins j) (a .same-outs j))) ∙ sym (ap (F (reportOf d)) (table-reported g d Q N k))
+
+  same-calls : SameCalls (kinds c) f (pairTable c P) (mapTable c M) (reportOf c) g (pairTable d Q) (mapTable d N) (reportOf d)
+  unfolding reportOf lockDecided setScripts unsignedTx
+  same-calls = record {
+    report = a .same-report;
+    lookups = λ m key h ok l. table-lookup f c P M e m key ok l ∙ a .same-lookups m key h ok l ∙ sym (table-lookup g d Q N k m key ok l);
+    input-lookups = λ i key h ok l. table-input f c P M e i key ok l ∙ input-alike i key h ok l ∙ sym (table-input g d Q N k i key ok l);
+    output-lookups = λ i key h ok l. table-output f c P M e i key ok l ∙ output-alike i key h ok l ∙ sym (table-output g d Q N k i key ok l);
+    lists = λ m t h. ap (listIn t) (view-is f c P M e m) ∙ a .same-lists m t h ∙ sym (ap (listIn t) (view-is g d Q N k m));
+    lock = by-report lockBy;
+    scripts = λ x buffer t T. by-report (λ s r. setBy buffer t T x r);
+    transaction = λ t T B. by-report (λ s r. written t B (txReported s t T r));
+  }
+
+room-parses : (f : List ℕ) (c : Content) (P M : List ℕ) → reading f ≡ accepted c → Room c P M → ParsesTo f P M c
+unfolding reportOf
+room-parses f c P M e r = parse-is f c P M e r
+
+-- with room for each, both files parse, and every call of a listed type answers the same: pairs added
+pub newer-calls : (f : List ℕ) (c d : Content) → reading f ≡ accepted c → AddedFile c d → RisesFile d → length (bytes d) ≤ limit
+    → (P M Q N : List ℕ) → Room c P M → Room d Q N
+    → ParsesTo f P M c × ParsesTo (bytes d) Q N d × SameCalls (kinds c) f (pairTable c P) (mapTable c M) (reportOf c) (bytes d) (pairTable d Q) (mapTable d N) (reportOf d)
+newer-calls f c d e a r s P M Q N x y =
+    let w = newer f c d e a r s in
+    (room-parses f c P M e x, room-parses (bytes d) d Q N (w .0) y, same-calls f c P M e (bytes d) d Q N (w .0) (w .1))
+
+-- and pairs struck
+pub older-calls : (f : List ℕ) (c : Content) → reading f ≡ accepted c → (P M Q N : List ℕ) → Room c P M → Room (struck c) Q N
+    → ParsesTo f P M c × ParsesTo (bytes (struck c)) Q N (struck c)
+    × SameCalls (kinds (struck c)) (bytes (struck c)) (pairTable (struck c) Q) (mapTable (struck c) N) (reportOf (struck c)) f (pairTable c P) (mapTable c M) (reportOf c)
+older-calls f c e P M Q N x y =
+    let w = older f c e in
+    (room-parses f c P M e x, room-parses (bytes (struck c)) (struck c) Q N (w .0) y, same-calls (bytes (struck c)) (struck c) Q N (w .0) f c P M e (w .1))
