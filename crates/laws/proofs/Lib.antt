@@ -5,7 +5,5 @@ pub mod Rooms
 pub mod Parsed
 pub mod Shown
 pub mod Given
-pub mod Turns
-pub mod Notes
 pub mod Listings
 pub mod Found

@@ -2,5 +2,4 @@ pub mod Fine
 pub mod Given
 pub mod Rooms
 pub mod Shown
-pub mod Turns
 pub mod Found

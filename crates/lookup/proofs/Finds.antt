@@ -189,7 +189,7 @@ part-is f v x y e q = e ∙ ap (part f) q
 pub ruleset answers = (part-refused, part-absent, part-found, number-refused, number-absent, number-found)
 
 -- a value that is found lies in the file
-place-in : (f key last : List ℕ) (es : List PairEntry) → fit f last es ≡ true → Lies f (place f key es)
+pub place-in : (f key last : List ℕ) (es : List PairEntry) → fit f last es ≡ true → Lies f (place f key es)
 unfolding fit place inFile
 place-in f key last [] h = record { inside = λ s n q. let z : _≡_ {A = ℕ} 0 1 = cc in absurd (omega arith) }
 place-in f key last (e ∷ es) h =

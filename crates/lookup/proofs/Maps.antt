@@ -191,5 +191,3 @@ pub within-is : (P : List ℕ) (r : Fit) (m : MapEntry) → Within P r → r ≡
 within-is P r m h e = h .inside m e
 
 pub ruleset fits = (map-within, input-within, output-within, within-is)
-
-pub ruleset sounds = (map-sound, input-sound, output-sound)

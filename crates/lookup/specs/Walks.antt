@@ -33,7 +33,7 @@ lengthOf W.KeyList = keyList
 pub record Short (r : Looked) : Type 0 where
   pub few : (s n : ℕ) → r ≡ At s n → n ≤ 8
 
--- and it lies in the file
+-- a value that was found lies in the file
 pub record Lies (f : List ℕ) (r : Looked) : Type 0 where
   pub inside : (s n : ℕ) → r ≡ At s n → s + n ≤ length f
 

@@ -165,7 +165,7 @@ fn fit_entry(file: &[u8], pairs: &[u32], m: MapEntry) -> Fit
 }
 
 // A map's number is below one plus both reported counts.
-fn is_reported(psbt: Psbt, m: u64) -> bool
+pub fn is_reported(psbt: Psbt, m: u64) -> bool
     ensures { λ r. ⌜ r ≡ ltb m (mapsReported psbt) ⌝ }
 {
     if m <= psbt.inputs {
@@ -242,7 +242,7 @@ fn is_key(file: &[u8], e: PairEntry, key_type: u8, key_data: &[u8]) -> bool
 }
 
 // Where the value of the asked key stands.
-fn find_place(file: &[u8], pairs: &[u32], m: MapEntry, key_type: u8, key_data: &[u8]) -> Looked
+pub fn find_place(file: &[u8], pairs: &[u32], m: MapEntry, key_type: u8, key_data: &[u8]) -> Looked
     requires { ⌜ m .first + m .count ≤ pairCount (now pairs) ⌝ }
     ensures { λ r. ⌜ r ≡ place (now (file .entry)) (keyOf «key_type» (now («key_data» .entry))) (entriesOf (now (pairs .entry)) m) ⌝ }
 {

@@ -1,4 +1,4 @@
--- A parse is its length, its magic and its maps, cut by the room; and any two outcomes that meet its promise agree.
+-- A parse is its length, its magic and its maps, cut by the room; any two outcomes that meet its promise agree; and what it accepts it shows.
 use Prim.Native.Nat.{ℕ, _≤_, _<_}
 use mathlib.Core.Path.{_≡_, refl, sym, _∙_, ap}
 use mathlib.Core.Bool.{Bool, true, false, not}
@@ -8,19 +8,26 @@ use borrow.Author.Tests.{le-leb, lt-leb, not-true, not-false}
 use lib.ListN.{length, take, drop, length-take}
 use lib.Seq.{take-all}
 use Rattle.format.specs.Keys.{order, isSame, same}
-use Rattle.format.specs.Content.{magic}
-use Rattle.format.specs.Reading.{limit, events}
+use Rattle.format.specs.Content.{magic, mapsOf}
+use Rattle.format.specs.Reading.{limit, events, reading}
+use Rattle.format.specs.Tables.{view}
 use Rattle.format.specs.Parse.{ParseOut, out, cut, parsed}
 use Rattle.format.specs.Told.{ToldParse, toldWith, toldParsed, toldParse}
 use Rattle.format.specs.declared.PsbtError.the-variants.{InvalidMagic, TooLong}
 use Rattle.format.specs.declared.Order.{Order}
 use Rattle.format.specs.declared.Order.the-variants.{Below, Same, Above}
+use Rattle.format.specs.declared.Psbt.{Psbt}
 use Rattle.format.specs.declared.Parsed.{Parsed}
 use Rattle.format.specs.declared.Parsed.the-variants as A
 use Rattle.format.proofs.Tests.{no-by}
 use Rattle.format.proofs.Keys.{same-is}
 use Rattle.format.proofs.Told.{parse-out-one}
-use Rattle.psbt.specs.Leans.{lean, cutLean, mapsRead}
+use Rattle.laws.specs.Rooms.{pairs#, ended#, Roomy, answer, answerOf}
+use Rattle.laws.specs.Shown.{Accepts, viewBy}
+use Rattle.laws.proofs.Rooms.{room-answers}
+use Rattle.laws.proofs.Parsed.{accepted-is}
+use Rattle.laws.proofs.Shown.{accepted-shows}
+use Rattle.psbt.specs.Leans.{begins, lean, cutLean, mapsRead}
 use Rattle.psbt.specs.Steps.{InLimit}
 use Rattle.psbt.proofs.Leans.{cut-lean, maps-walked}
 
@@ -72,7 +79,7 @@ module _ (F P M : List ℕ) where
     pub maps-told : not b ≡ false → (r : Parsed) (P′ M′ : List ℕ) → out r P′ M′ ≡ mapsRead F P M → toldWith (toldParsed r) P′ M′ ≡ toldParse (parsed F P M)
     unfolding parsed events limit mapsRead lean
     maps-told h r P′ M′ q =
-        tell r P′ M′ _ (q ∙ sym (rw (le-leb (length F) 1_048_576 l, sym e ∙ not-false b h) (cut-lean 5 0 0 0 P M _ ∙ ap (λ x. cutLean 5 0 0 0 P M (Rattle.psbt.specs.Leans.begins x)) (maps-walked (drop 5 F)))))
+        tell r P′ M′ _ (q ∙ sym (rw (le-leb (length F) 1_048_576 l, sym e ∙ not-false b h) (cut-lean 5 0 0 0 P M _ ∙ ap (λ x. cutLean 5 0 0 0 P M (begins x)) (maps-walked (drop 5 F)))))
 
 pub ruleset parses = (too-long, no-magic, in-limit, maps-told)
 
@@ -83,3 +90,22 @@ unfolding toldParse
 one-parse F P M r₁ r₂ P₁ P₂ M₁ M₂ a b =
     let e : out r₁ P₁ M₁ ≡ out r₂ P₂ M₂ = parse-out-one (out r₁ P₁ M₁) (out r₂ P₂ M₂) (a ∙ sym b) in
     ((cc), (cc), (cc))
+
+-- an outcome that meets the promise is the definition's
+parse-is : (F P M : List ℕ) (r : Parsed) (P′ M′ : List ℕ) → toldWith (toldParsed r) P′ M′ ≡ toldParse (parsed F P M) → parsed F P M ≡ out r P′ M′
+unfolding toldParse
+parse-is F P M r P′ M′ q = sym (parse-out-one (out r P′ M′) (parsed F P M) q)
+
+-- with rooms at least the file's pairs and maps the answer is the reading's verdict
+pub parse-verdict : (F P M : List ℕ) (r : Parsed) (P′ M′ : List ℕ) → Roomy (events F) P M → toldWith (toldParsed r) P′ M′ ≡ toldParse (parsed F P M)
+    → r ≡ answerOf (reading F) (pairs# (events F)) (ended# (events F))
+unfolding answer
+parse-verdict F P M r P′ M′ h q = ap answer (sym (parse-is F P M r P′ M′ q)) ∙ room-answers F P M h
+
+-- a file that is accepted has a content, and the tables left show exactly that
+pub parse-accepts : (F P M : List ℕ) (s : Psbt) (p m : ℕ) (P′ M′ : List ℕ) → toldWith (toldParsed (A.Accepted s p m)) P′ M′ ≡ toldParse (parsed F P M) → Accepts F P M s p m P′ M′
+parse-accepts F P M s p m P′ M′ q = accepted-is F P M s p m P′ M′ (parse-is F P M (A.Accepted s p m) P′ M′ q)
+
+pub parse-shows : (F P M : List ℕ) (s : Psbt) (p m : ℕ) (P′ M′ : List ℕ) (q : toldWith (toldParsed (A.Accepted s p m)) P′ M′ ≡ toldParse (parsed F P M)) (n : ℕ)
+    → view F P′ M′ s n ≡ viewBy n (mapsOf (parse-accepts F P M s p m P′ M′ q .content))
+parse-shows F P M s p m P′ M′ q n = accepted-shows F P M s p m P′ M′ (parse-accepts F P M s p m P′ M′ q) n

@@ -309,12 +309,14 @@ fn psbt_of(g: Globals) -> Psbt
     let tx_modifiable = g.tx_modifiable;
     let n_inputs = g.n_inputs;
     let n_outputs = g.n_outputs;
+    let inputs = count_of(n_inputs);
+    let outputs = count_of(n_outputs);
     Psbt {
         tx_version: signed(or_zero(tx_version)),
         fallback_locktime,
         tx_modifiable,
-        inputs: count_of(n_inputs),
-        outputs: count_of(n_outputs),
+        inputs,
+        outputs,
     }
 }
 
@@ -536,7 +538,7 @@ fn read_maps(file: &[u8], pairs: &mut [u32], maps: &mut [u32]) -> Parsed
     ensures { λ r. ⌜ out r (now (pairs .exit)) (now (maps .exit)) ≡ mapsRead (now (file .entry)) (now (pairs .entry)) (now (maps .entry)) ⌝ }
 {
     let mut answer = Parsed::Refused {
-        error: PsbtError::MapsFull,
+        error: PsbtError::UnexpectedEof,
         pairs: 0,
         maps: 0,
     };

@@ -27,153 +27,60 @@ Inv-maps file pairs₀ maps₀ w₀ at₀ p₀ m₀ pairs maps w at p m = AtMaps
 abbrev μ-maps : tie.MeasureT-maps
 μ-maps file pairs₀ maps₀ w₀ at₀ p₀ m₀ pairs maps w at p m = length file - at
 
+-- needs that lie too far from their facts for the search to find them: s is where the step was made, l where the inner loop began
 write-pair-requires : tie.Need-write-pair-requires Inv-loop μ-loop Inv-maps μ-maps
 write-pair-requires c κs =
-    search (
-      one-writes,
-      c .before .if2 .left,
-      c .before .before .has-pair-room .ensures,
-      c .before .before .before .before .before .x3 .given .1,
-      c .before .before .before .before .before .before .before .step-at .ensures,
-      c .before .before .before .before .before .before .before .before .before .before .loop .inv,
-      c .before .before .before .before .before .before .before .before .before .before .before .if1 .left,
-      c .before .before .before .before .before .before .before .before .before .before .before .before .has-map-room .ensures,
-      c .before .before .before .before .before .before .before .before .before .before .before .before .before .before .maps .inv,
-      c .before .before .before .before .before .before .before .before .before .before .before .before .before .before .before .first-map .ensures,
-      c .before .before .before .before .before .before .before .before .before .before .before .before .before .before .before .before .before .before .before .pre,
-    )
+    let s = c .before .before .before .before .before .before .before in
+    let l = s .before .before .before in
+    search (one-writes, c .before .if2 .left, c .before .before .has-pair-room .ensures, c .before .before .before .before .before .x3 .given .1, s .step-at .ensures, l .loop .inv, l .before .before .before .before .before .before .before .before .before .pre)
 
 add-le : tie.Need-add-le Inv-loop μ-loop Inv-maps μ-maps
 add-le c =
-    search (
-      one-key,
-      c .before .before .before .write-pair .ensures,
-      c .before .before .before .before .before .if2 .left,
-      c .before .before .before .before .before .before .has-pair-room .ensures,
-      c .before .before .before .before .before .before .before .before .before .x3 .given .1,
-      c .before .before .before .before .before .before .before .before .before .before .before .step-at .ensures,
-      c .before .before .before .before .before .before .before .before .before .before .before .before .before .before .loop .inv,
-      c .before .before .before .before .before .before .before .before .before .before .before .before .before .before .before .if1 .left,
-      c .before .before .before .before .before .before .before .before .before .before .before .before .before .before .before .before .has-map-room .ensures,
-      c .before .before .before .before .before .before .before .before .before .before .before .before .before .before .before .before .before .before .maps .inv,
-      c .before .before .before .before .before .before .before .before .before .before .before .before .before .before .before .before .before .before .before .first-map .ensures,
-      c .before .before .before .before .before .before .before .before .before .before .before .before .before .before .before .before .before .before .before .before .before .before .before .pre,
-    )
+    let s = c .before .before .before .before .before .before .before .before .before .before .before in
+    let l = s .before .before .before in
+    search (one-key, c .before .before .before .before .before .before .before .before .before .x3 .given .1, s .step-at .ensures, l .loop .inv, l .before .before .before .before .before .before .before .before .before .pre)
 
 add-at : tie.Need-add-at Inv-loop μ-loop Inv-maps μ-maps
 add-at c =
-    search (
-      one-value,
-      c .before .before .before .before .write-pair .ensures,
-      c .before .before .before .before .before .before .if2 .left,
-      c .before .before .before .before .before .before .before .has-pair-room .ensures,
-      c .before .before .before .before .before .before .before .before .before .before .x3 .given .1,
-      c .before .before .before .before .before .before .before .before .before .before .before .before .step-at .ensures,
-      c .before .before .before .before .before .before .before .before .before .before .before .before .before .before .before .loop .inv,
-      c .before .before .before .before .before .before .before .before .before .before .before .before .before .before .before .before .if1 .left,
-      c .before .before .before .before .before .before .before .before .before .before .before .before .before .before .before .before .before .has-map-room .ensures,
-      c .before .before .before .before .before .before .before .before .before .before .before .before .before .before .before .before .before .before .before .maps .inv,
-      c .before .before .before .before .before .before .before .before .before .before .before .before .before .before .before .before .before .before .before .before .first-map .ensures,
-      c .before .before .before .before .before .before .before .before .before .before .before .before .before .before .before .before .before .before .before .before .before .before .before .before .pre,
-    )
+    let s = c .before .before .before .before .before .before .before .before .before .before .before .before in
+    let l = s .before .before .before in
+    search (one-value, c .before .before .before .before .before .before .before .before .before .before .x3 .given .1, s .step-at .ensures, l .loop .inv, l .before .before .before .before .before .before .before .before .before .pre)
 
 add-p : tie.Need-add-p Inv-loop μ-loop Inv-maps μ-maps
 add-p c =
-    search (
-      one-more,
-      c .before .before .before .before .write-pair .ensures,
-      c .before .before .before .before .before .before .if2 .left,
-      c .before .before .before .before .before .before .before .has-pair-room .ensures,
-      c .before .before .before .before .before .before .before .before .before .before .x3 .given .1,
-      c .before .before .before .before .before .before .before .before .before .before .before .before .step-at .ensures,
-      c .before .before .before .before .before .before .before .before .before .before .before .before .before .before .before .loop .inv,
-      c .before .before .before .before .before .before .before .before .before .before .before .before .before .before .before .before .if1 .left,
-      c .before .before .before .before .before .before .before .before .before .before .before .before .before .before .before .before .before .has-map-room .ensures,
-      c .before .before .before .before .before .before .before .before .before .before .before .before .before .before .before .before .before .before .before .maps .inv,
-      c .before .before .before .before .before .before .before .before .before .before .before .before .before .before .before .before .before .before .before .before .first-map .ensures,
-      c .before .before .before .before .before .before .before .before .before .before .before .before .before .before .before .before .before .before .before .before .before .before .before .before .pre,
-    )
+    let s = c .before .before .before .before .before .before .before .before .before .before .before .before in
+    let l = s .before .before .before in
+    search (one-more, c .before .before .before .before .before .before .before .before .before .before .x3 .given .1, s .step-at .ensures, l .loop .inv, l .before .before .before .before .before .before .before .before .before .pre)
 
 write-map-requires : tie.Need-write-map-requires Inv-loop μ-loop Inv-maps μ-maps
 write-map-requires c κs =
-    search (
-      map-writes,
-      c .before .before .x2 .given .1,
-      c .before .before .before .before .step-at .ensures,
-      c .before .before .before .before .before .before .before .loop .inv,
-      c .before .before .before .before .before .before .before .before .if1 .left,
-      c .before .before .before .before .before .before .before .before .before .has-map-room .ensures,
-      c .before .before .before .before .before .before .before .before .before .before .before .maps .inv,
-      c .before .before .before .before .before .before .before .before .before .before .before .before .first-map .ensures,
-      c .before .before .before .before .before .before .before .before .before .before .before .before .before .before .before .before .pre,
-    )
+    let s = c .before .before .before .before in
+    let l = s .before .before .before in
+    search (map-writes, c .before .before .x2 .given .1, s .step-at .ensures, l .loop .inv, l .before .if1 .left, l .before .before .has-map-room .ensures, l .before .before .before .before .maps .inv, l .before .before .before .before .before .before .before .before .before .pre)
 
 maps-again : tie.Need-maps-again Inv-loop μ-loop Inv-maps μ-maps
 maps-again c =
-    search (
-      maps-next,
-      c .before .t3 .given .1,
-      c .before .before .before .after-map .ensures,
-      c .before .before .before .before .before .before .write-map .ensures,
-      c .before .before .before .before .before .before .before .before .before .x2 .given .1,
-      c .before .before .before .before .before .before .before .before .before .before .before .step-at .ensures,
-      c .before .before .before .before .before .before .before .before .before .before .before .before .before .before .loop .inv,
-      c .before .before .before .before .before .before .before .before .before .before .before .before .before .before .before .if1 .left,
-      c .before .before .before .before .before .before .before .before .before .before .before .before .before .before .before .before .has-map-room .ensures,
-      c .before .before .before .before .before .before .before .before .before .before .before .before .before .before .before .before .before .before .maps .inv,
-      c .before .before .before .before .before .before .before .before .before .before .before .before .before .before .before .before .before .before .before .first-map .ensures,
-      c .before .before .before .before .before .before .before .before .before .before .before .before .before .before .before .before .before .before .before .before .before .before .before .pre,
-    )
+    let s = c .before .before .before .before .before .before .before .before .before .before .before in
+    let l = s .before .before .before in
+    search (maps-next, c .before .t3 .given .1, c .before .before .before .after-map .ensures, c .before .before .before .before .before .before .write-map .ensures, c .before .before .before .before .before .before .before .before .before .x2 .given .1, s .step-at .ensures, l .loop .inv, l .before .if1 .left, l .before .before .has-map-room .ensures, l .before .before .before .before .maps .inv)
 
 returns-3 : tie.Need-returns-3 Inv-loop μ-loop Inv-maps μ-maps
 returns-3 c =
-    search (
-      exit-22,
-      c .if2 .taken,
-      c .before .has-pair-room .ensures,
-      c .before .before .before .before .x3 .given .1,
-      c .before .before .before .before .before .before .step-at .ensures,
-      c .before .before .before .before .before .before .before .before .before .loop .inv,
-      c .before .before .before .before .before .before .before .before .before .before .if1 .left,
-      c .before .before .before .before .before .before .before .before .before .before .before .has-map-room .ensures,
-      c .before .before .before .before .before .before .before .before .before .before .before .before .before .maps .inv,
-      c .before .before .before .before .before .before .before .before .before .before .before .before .before .before .first-map .ensures,
-      c .before .before .before .before .before .before .before .before .before .before .before .before .before .before .before .before .before .before .pre,
-    )
+    let s = c .before .before .before .before .before .before in
+    let l = s .before .before .before in
+    search (exit-22, c .if2 .taken, c .before .has-pair-room .ensures, c .before .before .before .before .x3 .given .1, s .step-at .ensures, l .loop .inv, l .before .if1 .left, l .before .before .has-map-room .ensures, l .before .before .before .before .maps .inv)
 
 returns-4 : tie.Need-returns-4 Inv-loop μ-loop Inv-maps μ-maps
 returns-4 c =
-    search (
-      exit-after,
-      c .before .t .given .1,
-      c .before .before .before .after-map .ensures,
-      c .before .before .before .before .before .before .write-map .ensures,
-      c .before .before .before .before .before .before .before .before .before .x2 .given .1,
-      c .before .before .before .before .before .before .before .before .before .before .before .step-at .ensures,
-      c .before .before .before .before .before .before .before .before .before .before .before .before .before .before .loop .inv,
-      c .before .before .before .before .before .before .before .before .before .before .before .before .before .before .before .if1 .left,
-      c .before .before .before .before .before .before .before .before .before .before .before .before .before .before .before .before .has-map-room .ensures,
-      c .before .before .before .before .before .before .before .before .before .before .before .before .before .before .before .before .before .before .maps .inv,
-      c .before .before .before .before .before .before .before .before .before .before .before .before .before .before .before .before .before .before .before .first-map .ensures,
-      c .before .before .before .before .before .before .before .before .before .before .before .before .before .before .before .before .before .before .before .before .before .before .before .pre,
-    )
+    let s = c .before .before .before .before .before .before .before .before .before .before .before in
+    let l = s .before .before .before in
+    search (exit-after, c .before .t .given .1, c .before .before .before .after-map .ensures, c .before .before .before .before .before .before .write-map .ensures, c .before .before .before .before .before .before .before .before .before .x2 .given .1, s .step-at .ensures, l .loop .inv, l .before .if1 .left, l .before .before .has-map-room .ensures, l .before .before .before .before .maps .inv)
 
 returns-5 : tie.Need-returns-5 Inv-loop μ-loop Inv-maps μ-maps
 returns-5 c =
-    search (
-      exit-done,
-      c .before .t2 .given .1,
-      c .before .before .before .after-map .ensures,
-      c .before .before .before .before .before .before .write-map .ensures,
-      c .before .before .before .before .before .before .before .before .before .x2 .given .1,
-      c .before .before .before .before .before .before .before .before .before .before .before .step-at .ensures,
-      c .before .before .before .before .before .before .before .before .before .before .before .before .before .before .loop .inv,
-      c .before .before .before .before .before .before .before .before .before .before .before .before .before .before .before .if1 .left,
-      c .before .before .before .before .before .before .before .before .before .before .before .before .before .before .before .before .has-map-room .ensures,
-      c .before .before .before .before .before .before .before .before .before .before .before .before .before .before .before .before .before .before .maps .inv,
-      c .before .before .before .before .before .before .before .before .before .before .before .before .before .before .before .before .before .before .before .first-map .ensures,
-      c .before .before .before .before .before .before .before .before .before .before .before .before .before .before .before .before .before .before .before .before .before .before .before .pre,
-    )
+    let s = c .before .before .before .before .before .before .before .before .before .before .before in
+    let l = s .before .before .before in
+    search (exit-done, c .before .t2 .given .1, c .before .before .before .after-map .ensures, c .before .before .before .before .before .before .write-map .ensures, c .before .before .before .before .before .before .before .before .before .x2 .given .1, s .step-at .ensures, l .loop .inv, l .before .if1 .left, l .before .before .has-map-room .ensures, l .before .before .before .before .maps .inv)
 
 -- needs: needs, loops
 pub read-maps-spec : {M : Type 1} → statement M

@@ -1,0 +1,83 @@
+// All reported maps at once: whether each is fit, and the fields of one that is.
+use format::Looked;
+use format::MapEntry;
+use format::Psbt;
+use format::Ruled;
+use lookup::Fit;
+ghost use mathlib.Core.Path.{_≡_};
+ghost use mathlib.Core.List.{map};
+ghost use Prim.Native.Nat.{_+_, _≤_};
+ghost use Rattle.format.specs.Content.{field};
+ghost use Rattle.format.specs.Entries.{shown};
+ghost use Rattle.format.specs.Tables.{view, gather, mapsReported};
+ghost use Rattle.format.specs.Locks.{sizedTo};
+ghost use Rattle.entries.specs.Words.{pairCount};
+ghost use Rattle.lookup.specs.Fits.{entriesOf};
+ghost use Rattle.all_maps.specs.Alls.{ruledBy, Usable};
+ghost use Rattle.all_maps.specs.Places.{fieldAt, sizedAt, sizedIn};
+
+// Where the field of a type stands in a map: start and length of its value.
+pub enum FoundAt {
+    Missing,
+    At { start: usize, len: usize },
+}
+
+// The same of a field that must have some number of bytes.
+pub enum SizedAt {
+    Missing,
+    Misfit,
+    At { start: usize },
+}
+
+// Each reported map is fit, or the refusal of the first that is not.
+pub fn all_fit(file: &[u8], pairs: &[u32], maps: &[u32], psbt: Psbt) -> Ruled
+    ensures { λ r. ⌜ r ≡ ruledBy (gather (view (now (file .entry)) (now (pairs .entry)) (now (maps .entry)) psbt) 0 (mapsReported psbt)) ⌝ }
+{
+    let mut m: u64 = 0;
+    while lookup::is_reported(psbt, m) {
+        match lookup::fit_map(file, pairs, maps, psbt, m) {
+            Fit::Refused(e) => {
+                return Ruled::Refused(e);
+            }
+            Fit::Is(_) => {
+                m = m + 1;
+            }
+        }
+    }
+    Ruled::Passed
+}
+
+// The field of a type without key data, in a map whose pairs are in the table.
+pub fn found_field(file: &[u8], pairs: &[u32], m: MapEntry, key_type: u8) -> FoundAt
+    requires { ⌜ m .first + m .count ≤ pairCount (now pairs) ⌝ }
+    ensures { λ r. ⌜ r ≡ fieldAt (now (file .entry)) (now (pairs .entry)) «key_type» m ⌝ }
+{
+    match lookup::find_place(file, pairs, m, key_type, &file[..0]) {
+        Looked::Refused(_) => FoundAt::Missing,
+        Looked::Absent => FoundAt::Missing,
+        Looked::At { start, len } => FoundAt::At { start, len },
+    }
+}
+
+fn sized(found: FoundAt, width: usize) -> SizedAt
+    ensures { λ r. ⌜ r ≡ sizedAt width found ⌝ }
+{
+    match found {
+        FoundAt::Missing => SizedAt::Missing,
+        FoundAt::At { start, len } => {
+            if len == width {
+                SizedAt::At { start }
+            } else {
+                SizedAt::Misfit
+            }
+        }
+    }
+}
+
+// The field of a type that must have `width` bytes, in a map that is fit.
+pub fn sized_field(file: &[u8], pairs: &[u32], m: MapEntry, key_type: u8, width: usize) -> SizedAt
+    requires { ⌜ Usable (now file) (now pairs) m ⌝ }
+    ensures { λ r. ⌜ sizedIn width (now (file .entry)) r ≡ sizedTo width (field «key_type» (map (shown (now (file .entry))) (entriesOf (now (pairs .entry)) m))) ⌝ }
+{
+    sized(found_field(file, pairs, m, key_type), width)
+}

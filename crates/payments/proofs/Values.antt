@@ -1,0 +1,157 @@
+-- Laws of what stands in a value: participants, and a witness UTXO.
+use mathlib.Core.Path.{_≡_, refl, sym, _∙_, ap}
+use mathlib.Core.List.{List, [], _++_}
+use Prim.Native.Nat.{ℕ, _+_, _*_, _/_, _^_, _≤_, _<_}
+use native.Mathlib.Omega.{arith}
+use borrow.Author.Tests.{lt-ltb, le-ltb, le-leb, lt-leb, eq-eqb, ne-eqb}
+use lib.ListN.{length, take, drop, getD, length-take, length-drop}
+use mir.Syntax.{w64}
+use mir.Val.{Fits}
+use Rattle.format.specs.Keys.{keyOf}
+use Rattle.format.specs.Tables.{Held, heldInput, heldOutput}
+use Rattle.format.specs.Lookups.{keyList, part}
+use Rattle.format.specs.Fields.{participantCount, participant, utxoOf, utxoBy, witnessUtxo, getWitnessUtxo, inputParticipants, outputParticipants}
+use Rattle.format.specs.declared.PsbtError.{PsbtError}
+use Rattle.format.specs.declared.PsbtError.the-variants.{BadValue, OutOfRange}
+use Rattle.format.specs.declared.Looked.{Looked}
+use Rattle.format.specs.declared.Looked.the-variants.{Refused, Absent, At}
+use Rattle.format.specs.declared.Numbered.{Numbered}
+use Rattle.format.specs.declared.Numbered.the-variants as N
+use Rattle.format.specs.declared.Utxo.{Utxo}
+use Rattle.format.specs.declared.Utxo.the-variants as U
+use Rattle.format.specs.declared.Psbt.{Psbt}
+use Rattle.wire.specs.Leads.{lead}
+use Rattle.lookup.specs.Fits.{fitInput, fitOutput}
+use Rattle.lookup.specs.Walks.{Lies}
+use Rattle.lookup.proofs.Maps.{input-held, output-held, input-sound, output-sound}
+use Rattle.lookup.proofs.Finds.{asked-in}
+use Rattle.payments.specs.Joined.{Placed, utxoPart}
+
+-- participants, by what was found
+module _ (o : Looked) where
+  pub count-refused : (e : PsbtError) → o ≡ Refused e → N.Refused e ≡ participantCount o
+  unfolding participantCount
+  count-refused e q = rw q
+
+  pub count-absent : o ≡ Absent → N.Absent ≡ participantCount o
+  unfolding participantCount
+  count-absent q = rw q
+
+  pub count-found : (s n : ℕ) → o ≡ At s n → N.Is (n / 33) ≡ participantCount o
+  unfolding participantCount
+  count-found s n q = rw q
+
+  module _ (i : ℕ) where
+    pub one-refused : (e : PsbtError) → o ≡ Refused e → Refused e ≡ participant i o
+    unfolding participant
+    one-refused e q = rw q
+
+    pub one-absent : o ≡ Absent → Absent ≡ participant i o
+    unfolding participant
+    one-absent q = rw q
+
+    module _ (s n : ℕ) (q : o ≡ At s n) where
+      pub one-past : n / 33 ≤ i → Refused OutOfRange ≡ participant i o
+      unfolding participant
+      one-past h = rw (q, le-ltb i (n / 33) h)
+
+      module _ (h : i < n / 33) where
+        pub one-there : At (s + 33 * i) 33 ≡ participant i o
+        unfolding participant
+        one-there = rw (q, lt-ltb i (n / 33) h)
+
+        pub one-fits : (f : List ℕ) → Lies f o → length f < 2 ^ 64 → Fits w64 (s + 33 * i)
+        one-fits f w l = record { fits = omega (arith, w .inside s n q) }
+
+pub ruleset participants = (count-refused, count-absent, count-found, one-refused, one-absent, one-past, one-there, one-fits)
+
+-- a witness UTXO, by its tests
+module _ (s : ℕ) (v : List ℕ) where
+  pub utxo-short : length v < 9 → U.Refused BadValue ≡ utxoOf s v
+  unfolding utxoOf
+  utxo-short h = rw (lt-leb 9 (length v) h)
+
+  module _ (h : 9 ≤ length v) where
+    pub utxo-long : 252 < getD v 8 0 → U.Refused BadValue ≡ utxoOf s v
+    unfolding utxoOf
+    utxo-long k = rw (le-leb 9 (length v) h, lt-leb (getD v 8 0) 252 k)
+
+    module _ (k : getD v 8 0 ≤ 252) where
+      pub utxo-other : (length v ≡ 9 + getD v 8 0 → ⊥) → U.Refused BadValue ≡ utxoOf s v
+      unfolding utxoOf
+      utxo-other e = rw (le-leb 9 (length v) h, le-leb (getD v 8 0) 252 k, ne-eqb (length v) (9 + getD v 8 0) e)
+
+      pub utxo-is : length v ≡ 9 + getD v 8 0 → (x : ℕ) → x ≡ lead 8 v → U.Is x (s + 9) (getD v 8 0) ≡ utxoOf s v
+      unfolding utxoOf lead
+      utxo-is e x q = rw (le-leb 9 (length v) h, le-leb (getD v 8 0) 252 k, eq-eqb (length v) (9 + getD v 8 0) e, q)
+
+    pub utxo-start : Placed s v → Fits w64 (s + 9)
+    utxo-start p = record { fits = omega (arith, p .fits) }
+
+pub ruleset utxos = (utxo-short, utxo-long, utxo-other, utxo-is, utxo-start)
+
+module _ (f v : List ℕ) (o : Looked) where
+  pub by-refused : (e : PsbtError) → o ≡ Refused e → U.Refused e ≡ utxoBy f o
+  unfolding utxoBy
+  by-refused e q = rw q
+
+  pub by-absent : o ≡ Absent → U.Absent ≡ utxoBy f o
+  unfolding utxoBy
+  by-absent q = rw q
+
+  module _ (is : v ≡ part f o) (s n : ℕ) (q : o ≡ At s n) where
+    bytes : v ≡ take n (drop s f)
+    unfolding part
+    bytes = is ∙ rw q
+
+    pub by-placed : length f < 2 ^ 64 → s < 2 ^ 64 → Placed s v
+    by-placed l k = record { fits = omega (arith, ap length bytes ∙ length-take n (drop s f), length-drop s f) }
+
+    pub by-found : (r : Utxo) → r ≡ utxoOf s v → r ≡ utxoBy f o
+    unfolding utxoBy
+    by-found r e = e ∙ ap (utxoOf s) bytes ∙ sym (rw q)
+
+pub ruleset utxos-by = (by-refused, by-absent, by-placed, by-found)
+
+module _ (f : List ℕ) (o : Utxo) where
+  pub script-refused : (e : PsbtError) → o ≡ U.Refused e → [] ≡ utxoPart f o
+  unfolding utxoPart
+  script-refused e q = rw q
+
+  pub script-absent : o ≡ U.Absent → [] ≡ utxoPart f o
+  unfolding utxoPart
+  script-absent q = rw q
+
+  pub script-found : (a s n : ℕ) → o ≡ U.Is a s n → (v : List ℕ) → v ≡ part f (At s n) → v ≡ utxoPart f o
+  unfolding utxoPart part
+  script-found a s n q v e = e ∙ sym (rw q)
+
+pub ruleset scripts = (script-refused, script-absent, script-found)
+
+-- the same of the asked map
+pub utxo-of : (f : List ℕ) (h : Held) (o : Looked) (r : Utxo) → r ≡ utxoBy f o → o ≡ witnessUtxo f h → r ≡ getWitnessUtxo f h
+unfolding getWitnessUtxo
+utxo-of f h o r e q = e ∙ ap (utxoBy f) q
+
+pub script-of : (f v : List ℕ) (x y : Utxo) → v ≡ utxoPart f x → x ≡ y → v ≡ utxoPart f y
+script-of f v x y e q = e ∙ ap (utxoPart f) q
+
+pub count-of : (o l : Looked) (r : Numbered) → r ≡ participantCount o → o ≡ l → r ≡ participantCount l
+count-of o l r e q = e ∙ ap participantCount q
+
+pub one-of : (i : ℕ) (o l r : Looked) → r ≡ participant i o → o ≡ l → r ≡ participant i l
+one-of i o l r e q = e ∙ ap (participant i) q
+
+-- a list of participants lies in the file
+module _ (f P M a : List ℕ) (s : Psbt) (i : ℕ) (o : Looked) where
+  pub input-list-in : (l : List ℕ) → o ≡ inputParticipants f a l (heldInput f P M s i) → Lies f o
+  unfolding inputParticipants
+  input-list-in l e =
+      rw (e, ← input-held f P M s i (fitInput f P M s i) refl) (asked-in _ keyList f (keyOf 0x1a (a ++ l)) P (fitInput f P M s i) (input-sound f P M s i (fitInput f P M s i) refl))
+
+  pub output-list-in : o ≡ outputParticipants f a (heldOutput f P M s i) → Lies f o
+  unfolding outputParticipants
+  output-list-in e =
+      rw (e, ← output-held f P M s i (fitOutput f P M s i) refl) (asked-in _ keyList f (keyOf 0x08 a) P (fitOutput f P M s i) (output-sound f P M s i (fitOutput f P M s i) refl))
+
+pub ruleset lists = (count-of, one-of, input-list-in, output-list-in)

@@ -1,0 +1,17 @@
+-- `payments::global::get_sp_dleq_proof` meets its contract.
+use borrow.Author.Needs.{needs}
+use Rattle.format.specs.Fields.{globalProof}
+use Rattle.lookup.proofs.Maps.{fits, map-held}
+use Rattle.payments.proofs.Joins.{of-maps}
+use Rattle.payments.proofs.global.get_sp_dleq_proof.Statement.{statement}
+use Rattle.payments.proofs.global.get_sp_dleq_proof.Tie as tie
+
+-- needs: needs, fits, map-held, of-maps | globalProof
+pub get-sp-dleq-proof-spec : {M : Type 1} → statement M
+unfolding globalProof
+get-sp-dleq-proof-spec =
+    tie.close
+    (tie.spec
+    (λ c κs. search (needs, fits, map-held, of-maps))
+    (λ c κs. search (needs, fits, map-held, of-maps))
+    (λ c. search (needs, fits, map-held, of-maps)))

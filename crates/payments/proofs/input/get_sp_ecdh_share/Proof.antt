@@ -1,0 +1,17 @@
+-- `payments::input::get_sp_ecdh_share` meets its contract.
+use borrow.Author.Needs.{needs}
+use Rattle.format.specs.Fields.{inputShare}
+use Rattle.lookup.proofs.Maps.{fits, input-held}
+use Rattle.payments.proofs.Joins.{of-maps}
+use Rattle.payments.proofs.input.get_sp_ecdh_share.Statement.{statement}
+use Rattle.payments.proofs.input.get_sp_ecdh_share.Tie as tie
+
+-- needs: needs, fits, input-held, of-maps | inputShare
+pub get-sp-ecdh-share-spec : {M : Type 1} → statement M
+unfolding inputShare
+get-sp-ecdh-share-spec =
+    tie.close
+    (tie.spec
+    (λ c κs. search (needs, fits, input-held, of-maps))
+    (λ c κs. search (needs, fits, input-held, of-maps))
+    (λ c. search (needs, fits, input-held, of-maps)))

@@ -1,0 +1,14 @@
+-- `payments::musig_fits` meets its contract.
+use borrow.Author.Needs.{needs}
+use Rattle.payments.proofs.Joins.{key-lengths}
+use Rattle.payments.proofs.musig_fits.Statement.{statement}
+use Rattle.payments.proofs.musig_fits.Tie as tie
+
+-- needs: needs, key-lengths
+pub musig-fits-spec : {M : Type 1} → statement M
+musig-fits-spec =
+    tie.close
+    (tie.spec
+    (λ c κs. search (needs, key-lengths))
+    (λ c. search (needs, key-lengths))
+    (λ c. search (needs, key-lengths)))

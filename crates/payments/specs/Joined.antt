@@ -1,0 +1,40 @@
+-- Keys put together of parts, what reading a value asks of its place, and the part that is a script.
+use Prim.Native.Nat.{ℕ, _+_, _^_, _≤_, _<_}
+use mathlib.Core.Path.{_≡_}
+use mathlib.Core.Bool.{Bool, true, _&&_}
+use mathlib.Core.List.{List, []}
+use lib.ListN.{length, take, drop}
+use lib.Dec.{eqb}
+use Rattle.format.specs.Fields.{leafFits}
+use Rattle.format.specs.declared.Utxo.{Utxo}
+use Rattle.format.specs.declared.Utxo.the-variants as U
+use Rattle.lookup.specs.Fits.{Within}
+use Rattle.lookup.specs.declared.Fit.{Fit}
+
+-- an aggregate key has 33 bytes, and its leaf hash fits
+unfoldable pub keyFits : List ℕ → List ℕ → Bool
+keyFits aggregate leaf = eqb (length aggregate) 33 && leafFits leaf
+
+-- a participant has 33 bytes too
+unfoldable pub musigFits : List ℕ → List ℕ → List ℕ → Bool
+musigFits participant aggregate leaf = eqb (length participant) 33 && keyFits aggregate leaf
+
+-- a key of three parts has at most 98 bytes
+pub record Joined (P : List ℕ) (fit : Fit) (a b c : List ℕ) : Type 0 where
+  pub within : Within P fit
+  pub short : length a + length b + length c ≤ 98
+
+-- the same where the parts' lengths are right
+pub record Parts (P : List ℕ) (fit : Fit) (ok : Bool) (a b c : List ℕ) : Type 0 where
+  pub within : Within P fit
+  pub joined : ok ≡ true → Joined P fit a b c
+
+-- the end of a value's bytes is a place
+pub record Placed (s : ℕ) (v : List ℕ) : Type 0 where
+  pub fits : s + length v < 2 ^ 64
+
+-- the script of a witness UTXO
+unfoldable pub utxoPart : List ℕ → Utxo → List ℕ
+utxoPart f (U.Refused e) = []
+utxoPart f U.Absent = []
+utxoPart f (U.Is a s n) = take n (drop s f)
