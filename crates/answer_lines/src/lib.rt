@@ -1,0 +1,210 @@
+// The line that answers a parse, put into a lent buffer piece by piece.
+ghost use mathlib.Core.Path.{_≡_};
+ghost use Prim.Native.Nat.{_+_, _≤_, _<_};
+ghost use lib.ListN.{length};
+ghost use lib.IntN.{natAbs};
+ghost use Rattle.io.specs.Counts.{Counts};
+ghost use Rattle.answer_lines.specs.Lines.{wrote, spot, lay};
+use format::Maybe;
+use format::Parsed;
+use format::Psbt;
+
+// How many words a caller lends for each entry.
+const PAIR_WORDS: usize = 4;
+
+const MAP_WORDS: usize = 2;
+
+// What every word of both tables is before a parse: no entry of a file within the limit has it.
+const UNUSED: u32 = 0xa5a5_a5a5;
+
+// Copies `text` into `out` from `at` on.
+fn copy_at(out: &mut [u8], at: usize, text: &[u8])
+    requires { ⌜ at + length (now text) ≤ length (now out) ⌝ }
+    ensures { λ _. ⌜ now (out .exit) ≡ wrote (now (out .entry)) at (now (text .entry)) ⌝ }
+{
+    let mut j: usize = 0;
+    while j < text.len() {
+        out[at + j] = text[j];
+        j = j + 1;
+    }
+}
+
+// Puts `text` at `at` and answers the place behind it. Where there is no room for it, nothing is put.
+pub fn put(out: &mut [u8], at: usize, text: &[u8]) -> usize
+    ensures { λ r. ⌜ spot r (now (out .exit)) ≡ lay (spot at (now (out .entry))) (now (text .entry)) ⌝ }
+{
+    if out.len() < at {
+        return at;
+    }
+    if out.len() - at < text.len() {
+        return at;
+    }
+    copy_at(out, at, text);
+    at + text.len()
+}
+
+// A number in decimal.
+fn put_number(out: &mut [u8], at: usize, n: u64) -> usize {
+    let mut digits = [0u8; 20];
+    let k = io::decimal(n, &mut digits);
+    put(out, at, &digits[..k])
+}
+
+// A number behind a space.
+fn put_word(out: &mut [u8], at: usize, n: u64) -> usize {
+    let to = put(out, at, b" ");
+    put_number(out, to, n)
+}
+
+// How far a number is from 0.
+fn magnitude(n: i32) -> u64
+    ensures { λ r. ⌜ r ≡ natAbs n ⌝ }
+{
+    if n < 0 { (-1 - n) as u64 + 1 } else { n as u64 }
+}
+
+// A number that may be negative, behind a space.
+fn put_signed(out: &mut [u8], at: usize, n: i32) -> usize {
+    if n < 0 {
+        let to = put(out, at, b" -");
+        return put_number(out, to, magnitude(n));
+    }
+    put_word(out, at, magnitude(n))
+}
+
+// A number that may be absent, behind a space.
+fn put_maybe(out: &mut [u8], at: usize, m: Maybe) -> usize {
+    match m {
+        Maybe::Absent => put(out, at, b" -"),
+        Maybe::Present(n) => put_word(out, at, n as u64),
+    }
+}
+
+fn wide(x: u32) -> u64 {
+    x as u64
+}
+
+// All words of a part of a table.
+fn put_words(out: &mut [u8], at: usize, words: &[u32]) -> usize {
+    let mut to = at;
+    let mut i: usize = 0;
+    while i < words.len() {
+        to = put_word(out, to, wide(words[i]));
+        i = i + 1;
+    }
+    to
+}
+
+// What an accepted parse reports of the global map.
+fn put_psbt(out: &mut [u8], at: usize, psbt: Psbt) -> usize {
+    let fallback_locktime = psbt.fallback_locktime;
+    let tx_modifiable = psbt.tx_modifiable;
+    let to = put(out, at, b"ok");
+    let to = put_signed(out, to, psbt.tx_version);
+    let to = put_maybe(out, to, fallback_locktime);
+    let to = put_maybe(out, to, tx_modifiable);
+    let to = put_word(out, to, psbt.inputs);
+    put_word(out, to, psbt.outputs)
+}
+
+// How many words of a table its first `n` entries take: all, where there are fewer.
+fn words_of(table: &[u32], n: usize, each: usize) -> usize
+    requires { ⌜ 0 < each ⌝ }
+    ensures { λ r. ⌜ Counts r (now (table .entry)) ⌝ }
+{
+    if table.len() / each < n {
+        table.len()
+    } else {
+        n * each
+    }
+}
+
+fn fill_unused(table: &mut [u32]) {
+    let mut i: usize = 0;
+    while i < table.len() {
+        table[i] = UNUSED;
+        i = i + 1;
+    }
+}
+
+// No word from `from` on was changed since the table was filled.
+fn is_unused(table: &[u32], from: usize) -> bool {
+    let mut changed: u32 = 0;
+    let mut i = from;
+    while i < table.len() {
+        changed = changed | (table[i] ^ UNUSED);
+        i = i + 1;
+    }
+    changed == 0
+}
+
+// A colon, and the first `n` entries of a table.
+fn put_entries(out: &mut [u8], at: usize, table: &[u32], n: usize, each: usize) -> usize
+    requires { ⌜ 0 < each ⌝ }
+{
+    let end = words_of(table, n, each);
+    let to = put(out, at, b" :");
+    put_words(out, to, &table[..end])
+}
+
+// The line's end, which tells of a table that was changed beyond its entries.
+fn put_end(out: &mut [u8], at: usize, pairs_kept: bool, maps_kept: bool) -> usize {
+    if !pairs_kept {
+        return put(out, at, b" touched\n");
+    }
+    if !maps_kept {
+        return put(out, at, b" touched\n");
+    }
+    put(out, at, b"\n")
+}
+
+// What was used of both tables, and the line's end.
+fn put_tables(out: &mut [u8], at: usize, pairs: &[u32], maps: &[u32], p: usize, m: usize) -> usize {
+    let pairs_kept = is_unused(pairs, words_of(pairs, p, PAIR_WORDS));
+    let maps_kept = is_unused(maps, words_of(maps, m, MAP_WORDS));
+    let to = put_word(out, at, p as u64);
+    let to = put_word(out, to, m as u64);
+    let to = put_entries(out, to, pairs, p, PAIR_WORDS);
+    let to = put_entries(out, to, maps, m, MAP_WORDS);
+    put_end(out, to, pairs_kept, maps_kept)
+}
+
+fn put_parsed(out: &mut [u8], at: usize, x: Parsed, pairs: &[u32], maps: &[u32]) -> usize {
+    match x {
+        Parsed::Accepted {
+            psbt,
+            pairs: p,
+            maps: m,
+        } => {
+            let to = put_psbt(out, at, psbt);
+            put_tables(out, to, pairs, maps, p, m)
+        }
+        Parsed::Refused {
+            error,
+            pairs: p,
+            maps: m,
+        } => {
+            let to = put(out, at, b"no");
+            let to = put_word(out, to, error.number() as u64);
+            put_tables(out, to, pairs, maps, p, m)
+        }
+    }
+}
+
+// Parses a file with room for that many pairs and maps, no more than the tables have, and puts its line.
+pub fn answer_parse(
+    file: &[u8],
+    pair_room: usize,
+    map_room: usize,
+    pairs: &mut [u32],
+    maps: &mut [u32],
+    out: &mut [u8],
+    at: usize,
+) -> usize {
+    fill_unused(pairs);
+    fill_unused(maps);
+    let p_end = words_of(pairs, pair_room, PAIR_WORDS);
+    let m_end = words_of(maps, map_room, MAP_WORDS);
+    let x = psbt::parse(file, &mut pairs[..p_end], &mut maps[..m_end]);
+    put_parsed(out, at, x, pairs, maps)
+}
