@@ -58,7 +58,7 @@ unfolding inputThen inputOk inputBytes
 input-ok x t h = by (isThere (x .txid)) refl (isThere (x .index)) refl h
   where
     by : (a : Bool) → isThere (x .txid) ≡ a → (b : Bool) → isThere (x .index) ≡ b → (a && (b && isThere (orFinal (x .sequence)))) ≡ true
-      → inputThen x t ≡ ahead (inputBytes x) t
+        → inputThen x t ≡ ahead (inputBytes x) t
     by false p b q h = never-true h
     by true p false q h = never-true h
     by true p true q h = rw (needs-there (x .txid) _ p) (rw (needs-there (x .index) _ q) (needs-there (orFinal (x .sequence)) _ h))
@@ -68,7 +68,7 @@ unfolding inputThen inputOk
 input-bad x t h = by (isThere (x .txid)) refl (isThere (x .index)) refl h
   where
     by : (a : Bool) → isThere (x .txid) ≡ a → (b : Bool) → isThere (x .index) ≡ b → (a && (b && isThere (orFinal (x .sequence)))) ≡ false
-      → inputThen x t ≡ refuses BadValue
+        → inputThen x t ≡ refuses BadValue
     by false p b q h = needs-not (x .txid) _ p
     by true p false q h = needs-there (x .txid) _ p ∙ needs-not (x .index) _ q
     by true p true q h = needs-there (x .txid) _ p ∙ needs-there (x .index) _ q ∙ needs-not (orFinal (x .sequence)) _ h
@@ -87,7 +87,7 @@ inputs-bad [] t h = never-true (sym h)
 inputs-bad (x ∷ xs) t h = by (inputOk x) refl h (inputs-bad xs t)
   where
     by : (b : Bool) → inputOk x ≡ b → (b && every inputOk xs) ≡ false → (every inputOk xs ≡ false → inputsThen xs t ≡ refuses BadValue)
-      → inputsThen (x ∷ xs) t ≡ refuses BadValue
+        → inputsThen (x ∷ xs) t ≡ refuses BadValue
     by false q h r = input-bad x (inputsThen xs t) q
     by true q h r = input-ok x (inputsThen xs t) q ∙ ap (ahead (inputBytes x)) (r h) ∙ ahead-refused (inputBytes x) BadValue
 
@@ -272,9 +272,9 @@ module _ (x : In) (k : SizedIn x) (h : inputOk x ≡ true) where
   unfolding putInput inputBytes
   put-input B at =
       let two : wrote (wrote B at (bytesIn (x .txid))) (at + 32) (bytesIn (x .index)) ≡ wrote B at (bytesIn (x .txid) ++ bytesIn (x .index))
-          = wrote-then B _ _ at (at + 32) (bytesIn (x .txid)) (bytesIn (x .index)) refl (omega (arith, txid-long)) refl in
+      = wrote-then B _ _ at (at + 32) (bytesIn (x .txid)) (bytesIn (x .index)) refl (omega (arith, txid-long)) refl in
       let three : _ ≡ wrote B at ((bytesIn (x .txid) ++ bytesIn (x .index)) ++ (0 ∷ []))
-          = wrote-then B _ _ at (at + 36) (bytesIn (x .txid) ++ bytesIn (x .index)) (0 ∷ []) two (rw length-append (omega (arith, txid-long, index-long))) refl in
+      = wrote-then B _ _ at (at + 36) (bytesIn (x .txid) ++ bytesIn (x .index)) (0 ∷ []) two (rw length-append (omega (arith, txid-long, index-long))) refl in
       wrote-then B _ _ at (at + 37) ((bytesIn (x .txid) ++ bytesIn (x .index)) ++ (0 ∷ [])) (bytesIn (orFinal (x .sequence))) three
       (rw (length-append, length-append) (omega (arith, txid-long, index-long))) refl
       ∙ ap (wrote B at) (append-assoc (bytesIn (x .txid) ++ bytesIn (x .index)) (0 ∷ []) _ ∙ append-assoc (bytesIn (x .txid)) (bytesIn (x .index)) _)
@@ -311,7 +311,7 @@ module _ (a : Sized) (k : SizedTo 8 a) (h : isThere a ≡ true) (s : List ℕ) w
   unfolding putOutput outBytes sizeLength
   put-output B at =
       let two : wrote (wrote B at (bytesIn a)) (at + 8) (shortest (length s)) ≡ wrote B at (bytesIn a ++ shortest (length s))
-          = wrote-then B _ _ at (at + 8) (bytesIn a) (shortest (length s)) refl (omega (arith, amount-long)) refl in
+      = wrote-then B _ _ at (at + 8) (bytesIn a) (shortest (length s)) refl (omega (arith, amount-long)) refl in
       wrote-then B _ _ at (at + 8 + length (shortest (length s))) (bytesIn a ++ shortest (length s)) s two (rw length-append (omega (arith, amount-long))) refl
       ∙ ap (wrote B at) (append-assoc (bytesIn a) (shortest (length s)) s)
 
@@ -364,7 +364,7 @@ module _ (s : Psbt) (ins : List In) (outs : List Out) (n m k : ℕ) (a : All Siz
       let l : length v ≡ 4 = length-bytesOf 4 (unsigned (s .«tx_version»)) in
       let front : wrote (wrote B 0 v) 4 c ≡ wrote B 0 (v ++ c) = wrote-then B _ _ 0 4 v c refl (omega (arith, l)) refl in
       let body : wrote (wrote (wrote B 0 v) 4 c) (4 + length c) (inputsBytes ins) ≡ wrote B 0 ((v ++ c) ++ inputsBytes ins)
-          = wrote-then B _ _ 0 (4 + length c) (v ++ c) (inputsBytes ins) front (rw length-append (omega (arith, l))) refl in
+      = wrote-then B _ _ 0 (4 + length c) (v ++ c) (inputsBytes ins) front (rw length-append (omega (arith, l))) refl in
       ap (putRest outs n) (put-inputs ins a h (wrote (wrote B 0 v) 4 c) (4 + length c))
       ∙ put-rest (wrote (wrote (wrote B 0 v) 4 c) (4 + length c) (inputsBytes ins)) (4 + length c + length (inputsBytes ins))
       ∙ wrote-then B _ _ 0 (4 + length c + length (inputsBytes ins)) ((v ++ c) ++ inputsBytes ins) _ body (rw (length-append, length-append) (omega (arith, l))) refl
