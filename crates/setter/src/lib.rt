@@ -25,7 +25,7 @@ ghost use Rattle.setter.specs.Rights.{servedAt, rightGiven, OutputOf};
 const RECORD: usize = 3;
 
 // The first assignment that names an output, if any does.
-pub enum Naming {
+enum Naming {
     Nobody,
     By(Assignment),
 }
@@ -70,7 +70,7 @@ fn script_lies(buffer: &[u8], a: Assignment) -> bool
 }
 
 // The script of an assignment that lies in the buffer.
-pub fn script_in(buffer: &[u8], a: Assignment) -> &[u8]
+fn script_in(buffer: &[u8], a: Assignment) -> &[u8]
     requires { ⌜ a .start + a .len ≤ length (now buffer) ⌝ }
     ensures { λ r. ⌜ now r ≡ scriptIn (now (buffer .entry)) a ⌝ }
 {
@@ -257,7 +257,7 @@ fn all_served(file: &[u8], pairs: &[u32], maps: &[u32], psbt: Psbt, list: &[u64]
 }
 
 // Scripts may still be set.
-pub fn is_settable(state: State) -> bool
+fn is_settable(state: State) -> bool
     ensures { λ r. ⌜ r ≡ settable state ⌝ }
 {
     if state.set {
