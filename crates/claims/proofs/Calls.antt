@@ -6,11 +6,11 @@ use Prim.Native.Nat.{ℕ, zero, suc, _+_, _≤_, _<_}
 use native.Mathlib.Omega.{arith}
 use borrow.Author.Tests.{leb-true, ltb-true}
 use lib.Dec.{leb, ltb}
-use lib.ListN.{length, take, drop, length-take, length-drop}
-use Rattle.format.specs.Tests.{pick, every}
+use lib.ListN.{length, take, drop, length-take, length-drop, length-append, length-map}
+use Rattle.format.specs.Tests.{pick, keepIf, only, every}
 use Rattle.format.specs.Numbers.{le}
 use Rattle.format.specs.Keys.{keyOf, same}
-use Rattle.format.specs.Rules.{INPUT, OUTPUT, listed}
+use Rattle.format.specs.Rules.{GLOBAL, INPUT, OUTPUT, listed}
 use Rattle.format.specs.Content.{Pair, Map, Content, mapsOf, bytes, found, find, field, psbtOf}
 use Rattle.format.specs.Reading.{limit, accepted, reading}
 use Rattle.format.specs.Entries.{keyIn, valueIn, shown}
@@ -29,14 +29,14 @@ use Rattle.format.specs.declared.Numbered.{Numbered}
 use Rattle.format.specs.declared.Numbered.the-variants as N
 use Rattle.format.proofs.Tests.{pick-ap, and-left, and-right}
 use Rattle.laws.specs.Fine.{RisesFile}
-use Rattle.laws.specs.Shown.{bare, viewBy, pairTable, mapTable, Room}
+use Rattle.laws.specs.Shown.{bare, viewBy, pairsIn, pairTable, mapTable, Room}
 use Rattle.laws.proofs.Files.{reading-is, one-plus-counts}
 use Rattle.laws.proofs.Parsed.{parse-is}
 use Rattle.laws.proofs.Shown.{held-shows, view-is}
 use Rattle.laws.proofs.Listings.{listing-is}
 use Rattle.laws.proofs.Found.{find-bare}
 use Rattle.claims.specs.Answers.{Answer, refuses, lacks, gives, answerAt, ofLengthIn, lookIn, listAt, listIn}
-use Rattle.claims.specs.Newer.{AddedFile, struck, kinds, asks, reportOf, insOf, outsOf, Alike}
+use Rattle.claims.specs.Newer.{AddedFile, strike, strikeMap, struck, kinds, asks, reportOf, insOf, outsOf, Alike}
 use Rattle.claims.specs.Calls.{ParsesTo, SameCalls}
 use Rattle.claims.proofs.Newers.{newer, older}
 
@@ -242,6 +242,38 @@ module _ (f : List ℕ) (c : Content) (P M : List ℕ) (e : reading f ≡ accept
     transaction = λ t T B. by-report (λ s r. written t B (txReported s t T r));
   }
 
+-- striking asks no more room
+less-pairs : (t : Bool) (p : Pair) (ps qs : List Pair) → length ps ≤ length qs → length (keepIf t p ps) ≤ length (p ∷ qs)
+less-pairs true p ps qs h = omega arith
+less-pairs false p ps qs h = omega arith
+
+strike-less : (k : ℕ) (ps : List Pair) → length (strike k ps) ≤ length ps
+unfolding strike only
+strike-less k [] = omega arith
+strike-less k (p ∷ ps) = less-pairs (listed k (p .key)) p (strike k ps) ps (strike-less k ps)
+
+maps-less : (k : ℕ) (ms ns ns′ : List Map) → pairsIn ns′ ≤ pairsIn ns → pairsIn (map (strikeMap k) ms ++ ns′) ≤ pairsIn (ms ++ ns)
+unfolding pairsIn strikeMap
+maps-less k [] ns ns′ h = h
+maps-less k (m ∷ ms) ns ns′ h = omega (arith, strike-less k (m .pairs), maps-less k ms ns ns′ h)
+
+outs-less : (ms : List Map) → pairsIn (map (strikeMap OUTPUT) ms) ≤ pairsIn ms
+unfolding pairsIn strikeMap
+outs-less [] = omega arith
+outs-less (m ∷ ms) = omega (arith, strike-less OUTPUT (m .pairs), outs-less ms)
+
+file-less : (c : Content) → pairsIn (mapsOf (struck c)) ≤ pairsIn (mapsOf c)
+unfolding pairsIn strikeMap struck mapsOf
+file-less c = omega (arith, strike-less GLOBAL (c .global .pairs), maps-less INPUT (c .ins) (c .outs) (map (strikeMap OUTPUT) (c .outs)) (outs-less (c .outs)))
+
+as-many : (c : Content) → length (mapsOf (struck c)) ≡ length (mapsOf c)
+unfolding struck mapsOf
+as-many c = ap suc (length-append (map (strikeMap INPUT) (c .ins)) (map (strikeMap OUTPUT) (c .outs))
+    ∙ ap₂ (λ (n m : ℕ). n + m) (length-map (c .ins) (strikeMap INPUT)) (length-map (c .outs) (strikeMap OUTPUT)) ∙ sym (length-append (c .ins) (c .outs)))
+
+room-struck : (c : Content) (P M : List ℕ) → Room c P M → Room (struck c) P M
+room-struck c P M r = record { pairs = omega (arith, file-less c, r .pairs); maps = omega (arith, as-many c, r .maps) }
+
 room-parses : (f : List ℕ) (c : Content) (P M : List ℕ) → reading f ≡ accepted c → Room c P M → ParsesTo f P M c
 unfolding reportOf
 room-parses f c P M e r = parse-is f c P M e r
@@ -254,10 +286,13 @@ newer-calls f c d e a r s P M Q N x y =
     let w = newer f c d e a r s in
     (room-parses f c P M e x, room-parses (bytes d) d Q N (w .0) y, same-calls f c P M e (bytes d) d Q N (w .0) (w .1))
 
--- and pairs struck
-pub older-calls : (f : List ℕ) (c : Content) → reading f ≡ accepted c → (P M Q N : List ℕ) → Room c P M → Room (struck c) Q N
-    → ParsesTo f P M c × ParsesTo (bytes (struck c)) Q N (struck c)
-    × SameCalls (kinds (struck c)) (bytes (struck c)) (pairTable (struck c) Q) (mapTable (struck c) N) (reportOf (struck c)) f (pairTable c P) (mapTable c M) (reportOf c)
-older-calls f c e P M Q N x y =
-    let w = older f c e in
-    (room-parses f c P M e x, room-parses (bytes (struck c)) (struck c) Q N (w .0) y, same-calls (bytes (struck c)) (struck c) Q N (w .0) f c P M e (w .1))
+-- and pairs struck: tables with room for the file have room for what is left
+pub older-calls : (f : List ℕ) (c : Content) → reading f ≡ accepted c → (P M : List ℕ) → Room c P M
+    → ParsesTo f P M c × ParsesTo (bytes (struck c)) P M (struck c)
+    × SameCalls (kinds (struck c)) (bytes (struck c)) (pairTable (struck c) P) (mapTable (struck c) M) (reportOf (struck c)) f (pairTable c P) (mapTable c M) (reportOf c)
+older-calls f c e P M r =
+    let w = older f c e in (
+      room-parses f c P M e r,
+      room-parses (bytes (struck c)) (struck c) P M (w .0) (room-struck c P M r),
+      same-calls (bytes (struck c)) (struck c) P M (w .0) f c P M e (w .1),
+    )
