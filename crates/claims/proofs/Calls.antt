@@ -6,31 +6,37 @@ use Prim.Native.Nat.{ℕ, zero, suc, _+_, _≤_, _<_}
 use native.Mathlib.Omega.{arith}
 use borrow.Author.Tests.{leb-true, ltb-true}
 use lib.Dec.{leb, ltb}
-use lib.ListN.{length, take, drop, length-take, length-drop}
-use Rattle.format.specs.Tests.{pick, every}
+use lib.ListN.{length, take, drop, length-take, length-drop, length-append, length-map}
+use Rattle.format.specs.Tests.{pick, keepIf, only, every}
+use Rattle.format.specs.Numbers.{le}
 use Rattle.format.specs.Keys.{keyOf, same}
-use Rattle.format.specs.Rules.{INPUT, OUTPUT, listed}
+use Rattle.format.specs.Rules.{GLOBAL, INPUT, OUTPUT, listed}
 use Rattle.format.specs.Content.{Pair, Map, Content, mapsOf, bytes, found, find, field, psbtOf}
 use Rattle.format.specs.Reading.{limit, accepted, reading}
 use Rattle.format.specs.Entries.{keyIn, valueIn, shown}
-use Rattle.format.specs.Tables.{inFile, Held, no, holds, held, heldInput, heldOutput, mapsReported, View, viewOf, view, gathered, gatherBy, gather}
-use Rattle.format.specs.Lookups.{place, Length, lengthFits, ofLength, asked}
+use Rattle.format.specs.Tables.{inFile, Held, no, holds, held, heldInput, heldOutput, mapsReported, View, shows, viewOf, view, gathered, gatherBy, gather}
+use Rattle.format.specs.Lookups.{place, Length, exactly, lengthFits, ofLength, asked, numberAt, list}
+use Rattle.format.specs.Fields.{partField, numberField}
 use Rattle.format.specs.Locks.{In, inOf}
 use Rattle.format.specs.Scripts.{Out, outOf, Reported, reports, reportedBy, reported, setBy, setScripts}
 use Rattle.format.specs.Transaction.{txReported, written, unsignedTx, lockBy, lockDecided}
 use Rattle.format.specs.declared.PsbtError.the-variants.{BadValue, OutOfRange}
 use Rattle.format.specs.declared.Psbt.{Psbt}
 use Rattle.format.specs.declared.PairEntry.{PairEntry}
-use Rattle.format.specs.declared.Looked.the-variants.{Refused, At}
+use Rattle.format.specs.declared.Looked.{Looked}
+use Rattle.format.specs.declared.Looked.the-variants.{Refused, Absent, At}
+use Rattle.format.specs.declared.Numbered.{Numbered}
+use Rattle.format.specs.declared.Numbered.the-variants as N
 use Rattle.format.proofs.Tests.{pick-ap, and-left, and-right}
 use Rattle.laws.specs.Fine.{RisesFile}
-use Rattle.laws.specs.Shown.{bare, viewBy, pairTable, mapTable, Room}
+use Rattle.laws.specs.Shown.{bare, viewBy, pairsIn, pairTable, mapTable, Room}
 use Rattle.laws.proofs.Files.{reading-is, one-plus-counts}
 use Rattle.laws.proofs.Parsed.{parse-is}
 use Rattle.laws.proofs.Shown.{held-shows, view-is}
+use Rattle.laws.proofs.Listings.{listing-is}
 use Rattle.laws.proofs.Found.{find-bare}
-use Rattle.claims.specs.Answers.{Answer, refuses, answerAt, ofLengthIn, lookIn, listIn}
-use Rattle.claims.specs.Newer.{AddedFile, struck, kinds, asks, reportOf, insOf, outsOf, Alike}
+use Rattle.claims.specs.Answers.{Answer, refuses, lacks, gives, answerAt, ofLengthIn, lookIn, listAt, listIn}
+use Rattle.claims.specs.Newer.{AddedFile, strike, strikeMap, struck, kinds, asks, reportOf, insOf, outsOf, Alike}
 use Rattle.claims.specs.Calls.{ParsesTo, SameCalls}
 use Rattle.claims.proofs.Newers.{newer, older}
 
@@ -58,6 +64,28 @@ unfolding asked lookIn viewOf answerAt
 asked-is f P M s m key ok l (no e) q = refl
 asked-is f P M s m key ok l (holds es) q =
     pick-ap (answerAt f) ok _ _ ∙ ap (λ (x : Answer). pick ok x (refuses BadValue)) (place-is f l key es (held-shows f P M s m es q .0))
+
+-- a number is known by the answer
+numberIn : Answer → Numbered
+numberIn (refuses e) = N.Refused e
+numberIn lacks = N.Absent
+numberIn (gives v) = N.Is (le v)
+
+number-in : (f : List ℕ) (y : Looked) → numberAt f y ≡ numberIn (answerAt f y)
+unfolding numberAt numberIn answerAt
+number-in f (Refused e) = refl
+number-in f Absent = refl
+number-in f (At s n) = refl
+
+number-is : (f g : List ℕ) (t w : ℕ) (x y : Held) → answerAt f (asked true (exactly w) f (keyOf t []) x) ≡ answerAt g (asked true (exactly w) g (keyOf t []) y) → numberField t w f x ≡ numberField t w g y
+unfolding numberField partField
+number-is f g t w x y h = number-in f _ ∙ ap numberIn h ∙ sym (number-in g _)
+
+-- a listing names what is shown of its type, as keys rise
+list-in : (f P M : List ℕ) (s : Psbt) (m t : ℕ) (h : Held) → held f P M s m ≡ h → listAt f (list f t h) h ≡ listIn t (viewOf f h)
+unfolding list listAt listIn viewOf
+list-in f P M s m t (no e) q = refl
+list-in f P M s m t (holds es) q = ap shows (listing-is t [] (map (shown f) es) (held-shows f P M s m es q .1))
 
 -- what a transaction takes from a map asks nothing of the spelling
 field-bare : (t : ℕ) (ps : List Pair) → field t (map bare ps) ≡ field t ps
@@ -116,6 +144,10 @@ module _ (f : List ℕ) (c : Content) (P M : List ℕ) (e : reading f ≡ accept
       → answerAt f (asked ok l f key (held f (pairTable c P) (mapTable c M) (reportOf c) m)) ≡ lookIn ok l key (viewBy m (mapsOf c))
   unfolding reportOf view
   table-lookup m key ok l = asked-is f (pairTable c P) (mapTable c M) (reportOf c) m key ok l _ refl ∙ ap (lookIn ok l key) (view-is f c P M e m)
+
+  table-list : (m t : ℕ) → let h = held f (pairTable c P) (mapTable c M) (reportOf c) m in listAt f (list f t h) h ≡ listIn t (viewBy m (mapsOf c))
+  unfolding reportOf view
+  table-list m t = list-in f (pairTable c P) (mapTable c M) (reportOf c) m t _ refl ∙ ap (listIn t) (view-is f c P M e m)
 
   table-input : (i : ℕ) (key : List ℕ) (ok : Bool) (l : Length) → answerAt f (asked ok l f key (heldInput f (pairTable c P) (mapTable c M) (reportOf c) i))
       ≡ pick (ltb i ((reportOf c) .inputs)) (lookIn ok l key (viewBy (1 + i) (mapsOf c))) (refuses OutOfRange)
@@ -187,18 +219,60 @@ module _ (f : List ℕ) (c : Content) (P M : List ℕ) (e : reading f ≡ accept
   by-report F =
       ap (F (reportOf c)) (table-reported f c P M e) ∙ (λ j. F (a .same-report j) (reports (a .same-ins j) (a .same-outs j))) ∙ sym (ap (F (reportOf d)) (table-reported g d Q N k))
 
+  inputs-same : (i : ℕ) (key : List ℕ) → listed INPUT key ≡ true → (ok : Bool) (l : Length) → answerAt f (asked ok l f key (heldInput f (pairTable c P) (mapTable c M) (reportOf c) i))
+      ≡ answerAt g (asked ok l g key (heldInput g (pairTable d Q) (mapTable d N) (reportOf d) i))
+  inputs-same i key h ok l = table-input f c P M e i key ok l ∙ input-alike i key h ok l ∙ sym (table-input g d Q N k i key ok l)
+
+  outputs-same : (i : ℕ) (key : List ℕ) → listed OUTPUT key ≡ true → (ok : Bool) (l : Length) → answerAt f (asked ok l f key (heldOutput f (pairTable c P) (mapTable c M) (reportOf c) i))
+      ≡ answerAt g (asked ok l g key (heldOutput g (pairTable d Q) (mapTable d N) (reportOf d) i))
+  outputs-same i key h ok l = table-output f c P M e i key ok l ∙ output-alike i key h ok l ∙ sym (table-output g d Q N k i key ok l)
+
   same-calls : SameCalls (kinds c) f (pairTable c P) (mapTable c M) (reportOf c) g (pairTable d Q) (mapTable d N) (reportOf d)
-  unfolding reportOf lockDecided setScripts unsignedTx
+  unfolding lockDecided setScripts unsignedTx
   same-calls = record {
     report = a .same-report;
     lookups = λ m key h ok l. table-lookup f c P M e m key ok l ∙ a .same-lookups m key h ok l ∙ sym (table-lookup g d Q N k m key ok l);
-    input-lookups = λ i key h ok l. table-input f c P M e i key ok l ∙ input-alike i key h ok l ∙ sym (table-input g d Q N k i key ok l);
-    output-lookups = λ i key h ok l. table-output f c P M e i key ok l ∙ output-alike i key h ok l ∙ sym (table-output g d Q N k i key ok l);
-    lists = λ m t h. ap (listIn t) (view-is f c P M e m) ∙ a .same-lists m t h ∙ sym (ap (listIn t) (view-is g d Q N k m));
+    input-lookups = inputs-same;
+    output-lookups = outputs-same;
+    input-numbers = λ i t w h. number-is f g t w _ _ (inputs-same i (keyOf t []) h true (exactly w));
+    output-numbers = λ i t w h. number-is f g t w _ _ (outputs-same i (keyOf t []) h true (exactly w));
+    lists = λ m t h. table-list f c P M e m t ∙ a .same-lists m t h ∙ sym (table-list g d Q N k m t);
     lock = by-report lockBy;
     scripts = λ x buffer t T. by-report (λ s r. setBy buffer t T x r);
     transaction = λ t T B. by-report (λ s r. written t B (txReported s t T r));
   }
+
+-- striking asks no more room
+less-pairs : (t : Bool) (p : Pair) (ps qs : List Pair) → length ps ≤ length qs → length (keepIf t p ps) ≤ length (p ∷ qs)
+less-pairs true p ps qs h = omega arith
+less-pairs false p ps qs h = omega arith
+
+strike-less : (k : ℕ) (ps : List Pair) → length (strike k ps) ≤ length ps
+unfolding strike only
+strike-less k [] = omega arith
+strike-less k (p ∷ ps) = less-pairs (listed k (p .key)) p (strike k ps) ps (strike-less k ps)
+
+maps-less : (k : ℕ) (ms ns ns′ : List Map) → pairsIn ns′ ≤ pairsIn ns → pairsIn (map (strikeMap k) ms ++ ns′) ≤ pairsIn (ms ++ ns)
+unfolding pairsIn strikeMap
+maps-less k [] ns ns′ h = h
+maps-less k (m ∷ ms) ns ns′ h = omega (arith, strike-less k (m .pairs), maps-less k ms ns ns′ h)
+
+outs-less : (ms : List Map) → pairsIn (map (strikeMap OUTPUT) ms) ≤ pairsIn ms
+unfolding pairsIn strikeMap
+outs-less [] = omega arith
+outs-less (m ∷ ms) = omega (arith, strike-less OUTPUT (m .pairs), outs-less ms)
+
+file-less : (c : Content) → pairsIn (mapsOf (struck c)) ≤ pairsIn (mapsOf c)
+unfolding pairsIn strikeMap struck mapsOf
+file-less c = omega (arith, strike-less GLOBAL (c .global .pairs), maps-less INPUT (c .ins) (c .outs) (map (strikeMap OUTPUT) (c .outs)) (outs-less (c .outs)))
+
+as-many : (c : Content) → length (mapsOf (struck c)) ≡ length (mapsOf c)
+unfolding struck mapsOf
+as-many c = ap suc (length-append (map (strikeMap INPUT) (c .ins)) (map (strikeMap OUTPUT) (c .outs))
+    ∙ ap₂ (λ (n m : ℕ). n + m) (length-map (c .ins) (strikeMap INPUT)) (length-map (c .outs) (strikeMap OUTPUT)) ∙ sym (length-append (c .ins) (c .outs)))
+
+room-struck : (c : Content) (P M : List ℕ) → Room c P M → Room (struck c) P M
+room-struck c P M r = record { pairs = omega (arith, file-less c, r .pairs); maps = omega (arith, as-many c, r .maps) }
 
 room-parses : (f : List ℕ) (c : Content) (P M : List ℕ) → reading f ≡ accepted c → Room c P M → ParsesTo f P M c
 unfolding reportOf
@@ -212,10 +286,13 @@ newer-calls f c d e a r s P M Q N x y =
     let w = newer f c d e a r s in
     (room-parses f c P M e x, room-parses (bytes d) d Q N (w .0) y, same-calls f c P M e (bytes d) d Q N (w .0) (w .1))
 
--- and pairs struck
-pub older-calls : (f : List ℕ) (c : Content) → reading f ≡ accepted c → (P M Q N : List ℕ) → Room c P M → Room (struck c) Q N
-    → ParsesTo f P M c × ParsesTo (bytes (struck c)) Q N (struck c)
-    × SameCalls (kinds (struck c)) (bytes (struck c)) (pairTable (struck c) Q) (mapTable (struck c) N) (reportOf (struck c)) f (pairTable c P) (mapTable c M) (reportOf c)
-older-calls f c e P M Q N x y =
-    let w = older f c e in
-    (room-parses f c P M e x, room-parses (bytes (struck c)) (struck c) Q N (w .0) y, same-calls (bytes (struck c)) (struck c) Q N (w .0) f c P M e (w .1))
+-- and pairs struck: tables with room for the file have room for what is left
+pub older-calls : (f : List ℕ) (c : Content) → reading f ≡ accepted c → (P M : List ℕ) → Room c P M
+    → ParsesTo f P M c × ParsesTo (bytes (struck c)) P M (struck c)
+    × SameCalls (kinds (struck c)) (bytes (struck c)) (pairTable (struck c) P) (mapTable (struck c) M) (reportOf (struck c)) f (pairTable c P) (mapTable c M) (reportOf c)
+older-calls f c e P M r =
+    let w = older f c e in (
+      room-parses f c P M e r,
+      room-parses (bytes (struck c)) (struck c) P M (w .0) (room-struck c P M r),
+      same-calls (bytes (struck c)) (struck c) P M (w .0) f c P M e (w .1),
+    )
