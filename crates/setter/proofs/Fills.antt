@@ -1,18 +1,14 @@
 -- Laws of writing: one entry, all entries one after the other, and the table that they leave.
 use mathlib.Core.Path.{_≡_, refl, sym, _∙_, ap, ap₂}
-use mathlib.Core.Bool.{Bool, true, false, _&&_}
+use mathlib.Core.Bool.{Bool, true, false}
 use mathlib.Core.List.{List, [], _∷_, _++_}
-use Prim.Native.Nat.{ℕ, zero, suc, _+_, _-_, _*_, _/_, _^_, _≤_, _<_}
-use native.Mathlib.Numerals.{add-one}
+use Prim.Native.Nat.{ℕ, zero, suc, _+_, _-_, _*_, _/_, _≤_, _<_}
 use native.Mathlib.Omega.{arith}
-use borrow.Author.Tests.{eq-eqb, ne-eqb, le-leb, lt-leb, leb-true, eqb-true}
-use lib.Dec.{leb, eqb}
-use lib.ListN.{length, drop, replicate, set, length-set, length-append}
-use mir.Syntax.{w64}
-use mir.Val.{Fits}
-use Rattle.format.specs.Tests.{pick, keepIf, only, every}
-use Rattle.format.specs.Keys.{same}
-use Rattle.format.specs.Scripts.{scriptIn, taproot, named, scriptEntry, entryFor, SetOut, setOut}
+use borrow.Author.Tests.{le-leb, lt-leb, leb-true, eqb-true}
+use lib.Dec.{eqb}
+use lib.ListN.{length, drop, replicate, length-append}
+use Rattle.format.specs.Tests.{keepIf, only, every}
+use Rattle.format.specs.Scripts.{scriptIn, taproot, named, entryFor, setOut}
 use Rattle.format.specs.declared.PsbtError.the-variants.{NoRoom}
 use Rattle.format.specs.declared.State.{State}
 use Rattle.format.specs.declared.Assignment.{Assignment}
@@ -24,26 +20,6 @@ use Rattle.setter.specs.Records.{records, lies, sound, firstOf}
 use Rattle.setter.specs.Fills.{entriesFrom, stateAfter, filledFor, Sound, Ready}
 use Rattle.setter.specs.declared.Naming.{Naming}
 use Rattle.setter.specs.declared.Naming.the-variants.{Nobody, By}
-
--- 01 and a script
-module _ (T : List ℕ) (at : ℕ) (s : List ℕ) (h : at + (1 + length s) ≤ length T) where
-  pub mark-in : at < length T
-  mark-in = omega arith
-
-  pub mark-fits : length T < 2 ^ 64 → Fits w64 (at + 1)
-  mark-fits b = record { fits = omega arith }
-
-  pub mark-room : at + 1 + length s ≤ length (set T at 1)
-  mark-room = rw (length-set T at 1) (omega arith)
-
-pub mark-is : (T T₁ : List ℕ) (at : ℕ) (s : List ℕ) → T₁ ≡ wrote (set T at 1) (at + 1) s → T₁ ≡ wrote T at (1 ∷ s)
-unfolding wrote
-mark-is T T₁ at s e = e ∙ rw (add-one at)
-
-pub mark-long : (T T₁ : List ℕ) (at : ℕ) (s : List ℕ) → T₁ ≡ wrote (set T at 1) (at + 1) s → length T₁ ≡ length T
-mark-long T T₁ at s e = wrote-long (set T at 1) T₁ (at + 1) s e ∙ length-set T at 1
-
-pub ruleset marks = (mark-in, mark-fits, mark-room, mark-is, mark-long)
 
 -- what all pass, those that are kept pass
 every-keep : (p : Assignment → Bool) (b : Bool) (x : Assignment) (xs : List Assignment) → p x ≡ true → every p xs ≡ true → every p (keepIf b x xs) ≡ true
@@ -74,9 +50,12 @@ unfolding entryFor every
 entry-by buffer [] h = refl
 entry-by buffer (a ∷ xs) h = ap suc (sound-long buffer a (and-left (sound buffer a) (every (sound buffer) xs) h))
 
-entry-long : (buffer l : List ℕ) (i : ℕ) → Sound buffer l → length (entryFor buffer (named i (records l))) ≡ 35
+named-sound : (buffer l : List ℕ) (i : ℕ) → Sound buffer l → every (sound buffer) (named i (records l)) ≡ true
 unfolding named
-entry-long buffer l i k = entry-by buffer (named i (records l)) (every-only (sound buffer) (λ a. eqb (a .output) i) (records l) (k .all))
+named-sound buffer l i k = every-only (sound buffer) (λ a. eqb (a .output) i) (records l) (k .all)
+
+entry-long : (buffer l : List ℕ) (i : ℕ) → Sound buffer l → length (entryFor buffer (named i (records l))) ≡ 35
+entry-long buffer l i k = entry-by buffer (named i (records l)) (named-sound buffer l i k)
 
 entries-long : (buffer l : List ℕ) (i n : ℕ) → Sound buffer l → length (entriesFrom buffer (records l) i n) ≡ 35 * n
 unfolding entriesFrom
@@ -108,8 +87,7 @@ module _ (T : List ℕ) (i : ℕ) (buffer l : List ℕ) (k : Ready T (i * 35 + 3
 
     module _ (a : Assignment) (e : o ≡ By a) where
       given : sound buffer a ≡ true
-      unfolding named
-      given = by-sound (sound buffer) (named i (records l)) a (every-only (sound buffer) (λ a. eqb (a .output) i) (records l) (k .sounds .all)) (sym is ∙ e)
+      given = by-sound (sound buffer) (named i (records l)) a (named-sound buffer l i (k .sounds)) (sym is ∙ e)
 
       pub entry-lies : a .start + a .len ≤ length buffer
       entry-lies = sound-lies buffer a given
@@ -140,9 +118,6 @@ module _ (T₀ : List ℕ) (n : ℕ) (l buffer T : List ℕ) (i : ℕ) (f : Fill
       sym (wrote-none T (i * 35)) ∙ sym (ap (λ (m : ℕ). wrote T (i * 35) (entriesFrom buffer (records l) i m)) q) ∙ f .is
 
   module _ (k : Ready T₀ (n * 35) buffer l) (h : i < n) where
-    pub fill-ready : Ready T (i * 35 + 35) buffer l
-    fill-ready = record { room = omega (arith, f .long, k .room); sounds = k .sounds }
-
     pub fill-more : (T₁ : List ℕ) → T₁ ≡ wrote T (i * 35) (entryFor buffer (named i (records l))) → Filling T₀ n l buffer T₁ (i + 1)
     unfolding entriesFrom
     fill-more T₁ w =
@@ -160,10 +135,7 @@ module _ (T₀ : List ℕ) (n : ℕ) (l buffer T : List ℕ) (i : ℕ) (f : Fill
               ∙ f .is;
         }
 
-    pub fill-next : length T₀ < 2 ^ 64 → Fits w64 (i + 1)
-    fill-next b = record { fits = omega (arith, k .room) }
-
-pub ruleset fillings = (fill-first, fill-done, fill-ready, fill-more, fill-next)
+pub ruleset fillings = (fill-first, fill-done, fill-more)
 
 -- the table, by whether it has room
 module _ (n : ℕ) (buffer : List ℕ) (t : State) (T l : List ℕ) where

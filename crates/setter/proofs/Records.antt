@@ -7,16 +7,14 @@ use native.Mathlib.Nat.{zero-add}
 use native.Mathlib.Numerals.{towards-suc, add-one}
 use native.Mathlib.Omega.{arith}
 use borrow.Author.Tests.{eq-eqb, ne-eqb}
-use lib.Dec.{eqb}
-use lib.ListN.{length, getD, drop, drop-of-length-le}
+use lib.ListN.{length, drop, drop-of-length-le}
 use lib.Seq.{drop-cons}
 use mir.Syntax.{w64}
 use mir.Val.{Fits}
-use Rattle.format.specs.Tests.{keepIf, only, every}
+use Rattle.format.specs.Tests.{only, every}
 use Rattle.format.specs.Scripts.{named}
 use Rattle.format.specs.declared.Assignment.{Assignment}
 use Rattle.setter.specs.Records.{records, recordCount, noRecord, recordAt, recordFrom, firstOf}
-use Rattle.setter.specs.declared.Naming.{Naming}
 use Rattle.setter.specs.declared.Naming.the-variants.{Nobody, By}
 
 -- how many records there are
@@ -48,7 +46,7 @@ module _ (l : List ℕ) (k : ℕ) (h : k < recordCount l) where
   pub record-read : (a : Assignment) → a ≡ recordFrom l (k * 3) → a ≡ recordAt l k
   record-read a q = q ∙ record-words k l h
 
-pub ruleset records-read = (record-count, record-begins, record-fits, record-read)
+pub ruleset records-read = (record-begins, record-fits, record-read)
 
 -- a walk over the records stands at number k
 module _ (l : List ℕ) (k n : ℕ) (c : n ≡ recordCount l) where
@@ -61,18 +59,9 @@ module _ (l : List ℕ) (k n : ℕ) (c : n ≡ recordCount l) where
     unfolding recordCount recordAt
     here a e = drop-cons (records l) k noRecord (omega arith) ∙ rw (add-one k, e)
 
-    pub walk-in : k < recordCount l
-    walk-in = omega arith
-
-    pub walk-fits : (j : ℕ) → j ≤ k → length l < 2 ^ 64 → Fits w64 (j + 1)
-    walk-fits j i b = record { fits = omega (arith, record-count l) }
-
 -- whether the records from number k on pass a test is whether all do
 abbrev pub Passing : (Assignment → Bool) → List ℕ → ℕ → Type 0
 Passing t l k = every t (drop k (records l)) ≡ every t (records l)
-
-pub pass-first : (t : Assignment → Bool) (l : List ℕ) → Passing t l 0
-pass-first t l = refl
 
 module _ (t : Assignment → Bool) (l : List ℕ) (k n : ℕ) (p : Passing t l k) (c : n ≡ recordCount l) where
   pub pass-done : n ≤ k → true ≡ every t (records l)
@@ -90,7 +79,7 @@ module _ (t : Assignment → Bool) (l : List ℕ) (k n : ℕ) (p : Passing t l k
     pub pass-more : b ≡ true → Passing t l (k + 1)
     pass-more q = rw q at turn
 
-pub ruleset passes = (pass-first, walk-in, walk-fits, pass-done, pass-stop, pass-more)
+pub ruleset passes = (pass-done, pass-stop, pass-more)
 
 -- what names an output among the records from number k on
 module _ (l : List ℕ) (i k n : ℕ) (c : n ≡ recordCount l) where
@@ -128,20 +117,11 @@ module _ (l : List ℕ) (i m k n : ℕ) (p : Counting l i m k) (c : n ≡ record
     pub count-other : (a .output ≡ i → ⊥) → Counting l i m (k + 1)
     count-other q = record { few = omega (arith, p .few); is = sym (ap (λ (x : List Assignment). m + length x) (this-not l i k n c h a e q)) ∙ p .is }
 
-    pub count-fits : length l < 2 ^ 64 → Fits w64 (m + 1)
-    count-fits b = walk-fits l k n c h m (p .few) b
-
-    pub count-next : length l < 2 ^ 64 → Fits w64 (k + 1)
-    count-next b = walk-fits l k n c h k (omega arith) b
-
-pub ruleset counts = (count-first, walk-in, count-done, count-one, count-other, count-fits, count-next)
+pub ruleset counts = (count-first, count-done, count-one, count-other)
 
 -- the first from number k on is the first of all
 abbrev pub Seeking : List ℕ → ℕ → ℕ → Type 0
 Seeking l i k = firstOf (named i (drop k (records l))) ≡ firstOf (named i (records l))
-
-pub seek-first : (l : List ℕ) (i : ℕ) → Seeking l i 0
-seek-first l i = refl
 
 module _ (l : List ℕ) (i k n : ℕ) (p : Seeking l i k) (c : n ≡ recordCount l) where
   pub seek-none : n ≤ k → Nobody ≡ firstOf (named i (records l))
@@ -156,7 +136,4 @@ module _ (l : List ℕ) (i k n : ℕ) (p : Seeking l i k) (c : n ≡ recordCount
     pub seek-more : (a .output ≡ i → ⊥) → Seeking l i (k + 1)
     seek-more q = sym (ap firstOf (this-not l i k n c h a e q)) ∙ p
 
-    pub seek-next : length l < 2 ^ 64 → Fits w64 (k + 1)
-    seek-next b = walk-fits l k n c h k (omega arith) b
-
-pub ruleset seeks = (seek-first, walk-in, seek-none, seek-this, seek-more, seek-next)
+pub ruleset seeks = (seek-none, seek-this, seek-more)

@@ -1,29 +1,29 @@
 -- Laws of what is right: one output, all of them, and the list that is given.
 use mathlib.Core.Path.{_≡_, refl, sym, _∙_, ap}
-use mathlib.Core.Bool.{Bool, true, false, not, _&&_, _||_}
-use mathlib.Core.List.{List, [], _∷_, map}
-use Prim.Native.Nat.{ℕ, zero, suc, _+_, _%_, _^_, _≤_, _<_}
+use mathlib.Core.Bool.{Bool, true, false, _&&_}
+use mathlib.Core.List.{List, [], _∷_}
+use Prim.Native.Nat.{ℕ, _+_, _%_, _^_, _≤_, _<_}
 use native.Mathlib.Numerals.{add-one}
 use native.Mathlib.Omega.{arith}
 use lib.Dec.{eqb}
 use lib.ListN.{length, drop, drop-of-length-le}
 use mir.Syntax.{w64}
 use mir.Val.{Fits}
-use Rattle.format.specs.Tests.{pick, every}
-use Rattle.format.specs.Content.{Found, present}
-use Rattle.format.specs.Scripts.{Out, allowed, named, served, Given, whole, cutShort, andMore, flat, rightFor, settable}
+use Rattle.format.specs.Tests.{every}
+use Rattle.format.specs.Content.{present}
+use Rattle.format.specs.Scripts.{Out, allowed, named, served, whole, cutShort, andMore, flat, rightFor, settable}
 use Rattle.format.specs.declared.MapEntry.{MapEntry}
 use Rattle.format.specs.declared.Psbt.{Psbt}
 use Rattle.format.specs.declared.State.{State}
 use Rattle.format.specs.declared.Assignment.{Assignment}
 use Rattle.entries.specs.Words.{pairCount, mapCount, mapAt}
 use Rattle.entries.proofs.Tables.{map-count}
-use Rattle.all_maps.specs.Alls.{Usable, AllFit, outAt, from, outsOf}
+use Rattle.all_maps.specs.Alls.{outAt, outsOf}
 use Rattle.all_maps.specs.Places.{fieldAt, foundIn}
 use Rattle.all_maps.specs.declared.FoundAt.{FoundAt}
 use Rattle.all_maps.specs.declared.FoundAt.the-variants as F
 use Rattle.all_maps.proofs.Runs.{from-length, from-here}
-use Rattle.all_maps.proofs.Gathers.{maps-few, output-listed, output-usable}
+use Rattle.all_maps.proofs.Gathers.{output-listed, output-usable}
 use Rattle.all_maps.proofs.Fields.{found-shows, out-script}
 use Rattle.setter.specs.Records.{records}
 use Rattle.setter.specs.Rights.{servedAt, rightGiven, OutputOf}
@@ -73,9 +73,6 @@ pub ruleset serves = (served-never, served-once)
 abbrev pub Serving : List ℕ → List ℕ → List ℕ → Psbt → List ℕ → ℕ → Type 0
 Serving f P M s l i = served i (drop i (outsOf f P M s)) (records l) ≡ served 0 (outsOf f P M s) (records l)
 
-pub serve-first : (f P M : List ℕ) (s : Psbt) (l : List ℕ) → Serving f P M s l 0
-serve-first f P M s l = refl
-
 module _ (f P M : List ℕ) (s : Psbt) (l : List ℕ) (i : ℕ) (p : Serving f P M s l i) where
   pub serve-done : s .outputs ≤ i → true ≡ served 0 (outsOf f P M s) (records l)
   unfolding served outsOf
@@ -84,9 +81,6 @@ module _ (f P M : List ℕ) (s : Psbt) (l : List ℕ) (i : ℕ) (p : Serving f P
       sym (ap (λ (os : List Out). served i os (records l)) (drop-of-length-le (outsOf f P M s) m)) ∙ p
 
   module _ (h : i < s .outputs) where
-    pub serve-output : AllFit f P M s → OutputOf f P M s i
-    serve-output k = record { fits = k; less = h }
-
     here : drop i (outsOf f P M s) ≡ outAt f P M s i ∷ drop (i + 1) (outsOf f P M s)
     unfolding outsOf
     here = rw (add-one i) (from-here (outAt f P M s) i (s .outputs) h)
@@ -102,7 +96,7 @@ module _ (f P M : List ℕ) (s : Psbt) (l : List ℕ) (i : ℕ) (p : Serving f P
       pub serve-more : b ≡ true → Serving f P M s l (i + 1)
       serve-more q = rw q at turn
 
-pub ruleset servings = (serve-first, serve-done, serve-output, serve-stop, serve-more)
+pub ruleset servings = (serve-done, serve-stop, serve-more)
 
 -- scripts may still be set
 module _ (t : State) where

@@ -1,28 +1,28 @@
 -- The setter: what is right is filled, what is not is refused, and what is told of it is one.
-use mathlib.Core.Path.{_≡_, refl, sym, _∙_, ap, ap₂}
+use mathlib.Core.Path.{_≡_, refl, sym, _∙_, ap}
 use mathlib.Core.Bool.{Bool, true, false, _&&_}
-use mathlib.Core.List.{List, [], _∷_, _++_}
-use Prim.Native.Nat.{ℕ, zero, suc, _+_, _*_, _%_}
+use mathlib.Core.List.{List, [], _∷_}
+use Prim.Native.Nat.{ℕ, suc, _+_, _%_}
 use native.Mathlib.Omega.{arith}
-use lib.ListN.{length, drop}
+use lib.ListN.{length}
 use lib.Dec.{ltb, eqb}
 use borrow.Author.Tests.{ne-eqb, eqb-true, eqb-false}
-use Rattle.format.specs.Tests.{pick, every}
-use Rattle.format.specs.Tables.{View, view, gather, mapsReported}
-use Rattle.format.specs.Scripts.{Out, Reported, unfitMap, reports, reported, allowed, scriptIn, taproot, served, Given, whole, cutShort, flat, scriptEntry, entriesFor, rightFor, settable, SetOut, setOut, afterSet, setTable, setGiven, setBy, setScripts}
+use Rattle.format.specs.Tests.{every}
+use Rattle.format.specs.Tables.{view, gather, mapsReported}
+use Rattle.format.specs.Scripts.{Out, Reported, allowed, served, Given, whole, cutShort, flat, entriesFor, rightFor, settable, SetOut, setOut, afterSet, setTable, setGiven, setBy, setScripts}
 use Rattle.format.specs.Told.{toldLeft, toldSet, toldSetOut}
 use Rattle.format.specs.declared.PsbtError.{PsbtError}
-use Rattle.format.specs.declared.PsbtError.the-variants.{InvalidOutputScripts, NoRoom}
+use Rattle.format.specs.declared.PsbtError.the-variants.{InvalidOutputScripts}
 use Rattle.format.specs.declared.Psbt.{Psbt}
 use Rattle.format.specs.declared.State.{State}
 use Rattle.format.specs.declared.Assignment.{Assignment}
 use Rattle.format.specs.declared.Ruled.{Ruled}
 use Rattle.format.specs.declared.Ruled.the-variants as R
 use Rattle.format.specs.declared.ScriptsSet.{ScriptsSet}
-use Rattle.format.specs.declared.ScriptsSet.the-variants.{Refused, Done}
+use Rattle.format.specs.declared.ScriptsSet.the-variants.{Refused}
 use Rattle.format.proofs.Tests.{and-left, and-right, never-true}
 use Rattle.format.proofs.Told.{set-out-one}
-use Rattle.all_maps.specs.Alls.{ruledBy, AllFit, outAt, insOf, outsOf}
+use Rattle.all_maps.specs.Alls.{ruledBy, AllFit, outAt, outsOf}
 use Rattle.all_maps.proofs.Runs.{from-length}
 use Rattle.all_maps.proofs.Gathers.{all-are, all-not, all-reported}
 use Rattle.setter.specs.Records.{records, lies, sound}
