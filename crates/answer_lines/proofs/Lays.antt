@@ -1,46 +1,18 @@
 -- Laws of text that is put into a buffer, and of tables by words.
-use mathlib.Core.Path.{_≡_, refl, sym, _∙_, ap}
+use mathlib.Core.Path.{_≡_, sym, _∙_, ap}
 use mathlib.Core.List.{List}
-use Prim.Native.Nat.{ℕ, suc, _+_, _*_, _/_, _^_, _-_, _≤_, _<_}
-use native.Mathlib.Nat.{add-zero, le-div-iff-mul-le}
-use native.Mathlib.Numerals.{add-one}
+use Prim.Native.Nat.{ℕ, _+_, _*_, _/_, _^_, _-_, _≤_, _<_}
+use native.Mathlib.Nat.{le-div-iff-mul-le}
 use native.Mathlib.Omega.{arith}
 use borrow.Author.Tests.{le-leb, lt-leb}
-use lib.ListN.{length, getD, drop, set, length-set, drop-of-length-le, take}
-use lib.Seq.{sets, length-sets, drop-cons, length-take-le}
+use lib.ListN.{length, take}
+use lib.Seq.{length-take-le}
 use mir.Syntax.{w64}
 use mir.Val.{Fits}
 use Rattle.io.specs.Counts.{Counts}
-use Rattle.answer_lines.specs.Lines.{wrote, Spot, spot, lay}
-
--- what is still to be copied, copied from here, gives the whole
-pub record Copying (D₀ : List ℕ) (at : ℕ) (S D : List ℕ) (j : ℕ) : Type 0 where
-  pub long : length D ≡ length D₀
-  pub is : sets D (at + j) (drop j S) ≡ sets D₀ at S
-
-pub copy-first : (D : List ℕ) (at : ℕ) (S : List ℕ) → Copying D at S D 0
-copy-first D at S = record { long = refl; is = rw (add-zero at) }
-
-module _ (D₀ : List ℕ) (at : ℕ) (S D : List ℕ) (j : ℕ) (k : Copying D₀ at S D j) where
-  pub copy-in : at + length S ≤ length D₀ → j < length S → at + j < length D
-  copy-in h l = omega (arith, k .long)
-
-  pub copy-fits : at + length S ≤ length D₀ → length D₀ < 2 ^ 64 → j < length S → Fits w64 (at + j)
-  copy-fits h g l = record { fits = omega arith }
-
-  pub copy-more : j < length S → Copying D₀ at S (set D (at + j) (getD S j 0)) (j + 1)
-  copy-more h =
-      let p : at + (j + 1) ≡ suc (at + j) = omega arith in
-      record {
-        long = length-set D (at + j) (getD S j 0) ∙ k .long;
-        is = rw (p, add-one j) (sym (ap (λ (l : List ℕ). sets D (at + j) l) (drop-cons S j 0 h)) ∙ k .is);
-      }
-
-  pub copy-done : length S ≤ j → D ≡ wrote D₀ at S
-  unfolding wrote
-  copy-done h = sym (ap (λ (l : List ℕ). sets D (at + j) l) (drop-of-length-le S h)) ∙ k .is
-
-pub ruleset copies = (copy-first, copy-in, copy-fits, copy-more, copy-done)
+use Rattle.io.specs.Digits.{digits, Fewest}
+use Rattle.writer.specs.Writes.{wrote}
+use Rattle.answer_lines.specs.Lines.{Spot, spot, lay, Spelt}
 
 -- the three ways of `put`
 module _ (at : ℕ) (D S : List ℕ) where
@@ -63,6 +35,10 @@ module _ (at : ℕ) (D S : List ℕ) where
   lay-put g h D′ e = ap (spot (at + length S)) e ∙ sym (rw (le-leb (at + length S) (length D) (lay-room g h)))
 
 pub ruleset lays = (lay-past, lay-full, lay-room, lay-fits, lay-put)
+
+-- digits that were made elsewhere, put
+pub spelt : (n k : ℕ) (D : List ℕ) (from to : Spot) → Fewest 10 1 n k → take k D ≡ digits 10 k n → to ≡ lay from (take k D) → Spelt n from to
+spelt n k D from to f d e = record { k = k; fewest = f; is = e ∙ ap (lay from) d }
 
 -- a part from the front on is as long as asked
 pub front-length : (T : List ℕ) (n : ℕ) → n ≤ length T → n ≡ length (take n T)

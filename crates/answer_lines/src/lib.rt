@@ -2,12 +2,14 @@
 ghost use mathlib.Core.Path.{_≡_};
 ghost use Prim.Native.Nat.{_+_, _≤_, _<_};
 ghost use lib.ListN.{length};
-ghost use lib.IntN.{natAbs};
 ghost use Rattle.io.specs.Counts.{Counts};
-ghost use Rattle.answer_lines.specs.Lines.{wrote, spot, lay};
+ghost use Rattle.answer_lines.specs.Lines.{spot, lay, Spelt};
 use format::Maybe;
 use format::Parsed;
 use format::Psbt;
+use std::num::wrapping_sub_u64;
+use writer::bits_of;
+use writer::put_bytes;
 
 // How many words a caller lends for each entry.
 const PAIR_WORDS: usize = 4;
@@ -16,18 +18,6 @@ const MAP_WORDS: usize = 2;
 
 // What every word of both tables is before a parse: no entry of a file within the limit has it.
 const UNUSED: u32 = 0xa5a5_a5a5;
-
-// Copies `text` into `out` from `at` on.
-fn copy_at(out: &mut [u8], at: usize, text: &[u8])
-    requires { ⌜ at + length (now text) ≤ length (now out) ⌝ }
-    ensures { λ _. ⌜ now (out .exit) ≡ wrote (now (out .entry)) at (now (text .entry)) ⌝ }
-{
-    let mut j: usize = 0;
-    while j < text.len() {
-        out[at + j] = text[j];
-        j = j + 1;
-    }
-}
 
 // Puts `text` at `at` and answers the place behind it. Where there is no room for it, nothing is put.
 pub fn put(out: &mut [u8], at: usize, text: &[u8]) -> usize
@@ -39,12 +29,14 @@ pub fn put(out: &mut [u8], at: usize, text: &[u8]) -> usize
     if out.len() - at < text.len() {
         return at;
     }
-    copy_at(out, at, text);
+    put_bytes(out, at, text);
     at + text.len()
 }
 
 // A number in decimal.
-fn put_number(out: &mut [u8], at: usize, n: u64) -> usize {
+fn put_number(out: &mut [u8], at: usize, n: u64) -> usize
+    ensures { λ r. ⌜ Spelt n (spot at (now (out .entry))) (spot r (now (out .exit))) ⌝ }
+{
     let mut digits = [0u8; 20];
     let k = io::decimal(n, &mut digits);
     put(out, at, &digits[..k])
@@ -56,20 +48,14 @@ fn put_word(out: &mut [u8], at: usize, n: u64) -> usize {
     put_number(out, to, n)
 }
 
-// How far a number is from 0.
-fn magnitude(n: i32) -> u64
-    ensures { λ r. ⌜ r ≡ natAbs n ⌝ }
-{
-    if n < 0 { (-1 - n) as u64 + 1 } else { n as u64 }
-}
-
 // A number that may be negative, behind a space.
 fn put_signed(out: &mut [u8], at: usize, n: i32) -> usize {
+    let bits = bits_of(n);
     if n < 0 {
         let to = put(out, at, b" -");
-        return put_number(out, to, magnitude(n));
+        return put_number(out, to, wrapping_sub_u64(0x1_0000_0000, bits));
     }
-    put_word(out, at, magnitude(n))
+    put_word(out, at, bits)
 }
 
 // A number that may be absent, behind a space.
