@@ -36,7 +36,7 @@ usable-within f P m u = u .within
 
 -- a field's place, by where its key was found
 module _ (f P : List ℕ) (t : ℕ) (m : MapEntry) (o : Looked) (at : o ≡ place f (keyOf t []) (entriesOf P m)) where
-  pub field-by : (x : FoundAt) → x ≡ foundAt o → x ≡ fieldAt f P t m
+  field-by : (x : FoundAt) → x ≡ foundAt o → x ≡ fieldAt f P t m
   unfolding fieldAt
   field-by x e = e ∙ ap foundAt at
 

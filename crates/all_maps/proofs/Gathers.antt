@@ -196,17 +196,23 @@ module _ (f P M : List ℕ) (s : Psbt) (k : AllFit f P M s) where
     pub input-listed : 1 + i < mapCount M
     input-listed = omega (arith, maps-few)
 
-    pub input-usable : (m : MapEntry) → m ≡ mapAt M (1 + i) → Usable f P m
+    pub input-whole : Whole f P M (1 + i)
     unfolding mapsReported
-    input-usable m e = rw e (k .all (1 + i) (omega arith) .usable)
+    input-whole = k .all (1 + i) (omega arith)
+
+    pub input-usable : (m : MapEntry) → m ≡ mapAt M (1 + i) → Usable f P m
+    input-usable m e = rw e (input-whole .usable)
 
   module _ (i : ℕ) (h : i < s .outputs) where
     pub output-listed : 1 + s .inputs + i < mapCount M
     output-listed = omega (arith, maps-few)
 
-    pub output-usable : (m : MapEntry) → m ≡ mapAt M (1 + s .inputs + i) → Usable f P m
+    pub output-whole : Whole f P M (1 + s .inputs + i)
     unfolding mapsReported
-    output-usable m e = rw e (k .all (1 + s .inputs + i) (omega arith) .usable)
+    output-whole = k .all (1 + s .inputs + i) (omega arith)
+
+    pub output-usable : (m : MapEntry) → m ≡ mapAt M (1 + s .inputs + i) → Usable f P m
+    output-usable m e = rw e (output-whole .usable)
 
 pub ruleset all-reports = (all-are, all-not, all-reported)
 

@@ -48,13 +48,16 @@ magic = 0x70 ∷ 0x73 ∷ 0x62 ∷ 0x74 ∷ 0xff ∷ []
 unfoldable pub pairBytes : Pair → List ℕ → List ℕ
 pairBytes p r = p .klen ++ (p .key ++ (p .vlen ++ (p .value ++ r)))
 
+-- the bytes of pairs, then r
 unfoldable pub pairsBytes : List Pair → List ℕ → List ℕ
 pairsBytes [] r = r
 pairsBytes (p ∷ ps) r = pairBytes p (pairsBytes ps r)
 
+-- the bytes of a map, its end behind its pairs, then r
 unfoldable pub mapBytes : Map → List ℕ → List ℕ
 mapBytes m r = pairsBytes (m .pairs) (m .end ++ r)
 
+-- the bytes of maps, then r
 unfoldable pub mapsBytes : List Map → List ℕ → List ℕ
 mapsBytes [] r = r
 mapsBytes (m ∷ ms) r = mapBytes m (mapsBytes ms r)
@@ -77,6 +80,7 @@ find key (p ∷ ps) = pick (same key (p .key)) (found (p .value)) (find key ps)
 unfoldable pub field : ℕ → List Pair → Found
 field t ps = find (keyOf t []) ps
 
+-- there is such a value
 unfoldable pub present : Found → Bool
 present absent = false
 present (found v) = true
@@ -86,6 +90,7 @@ unfoldable pub number : Found → ℕ
 number absent = 0
 number (found v) = le v
 
+-- the number that a value spells, if there is one
 unfoldable pub maybe : Found → Maybe
 maybe absent = Absent
 maybe (found v) = Present (le v)
@@ -95,6 +100,7 @@ unfoldable pub sizeValue : Size → ℕ
 sizeValue (Bad e) = 0
 sizeValue (Read n u) = n
 
+-- the count that a count field's value says
 unfoldable pub counted : Found → ℕ
 counted absent = 0
 counted (found v) = sizeValue (size v)
@@ -128,6 +134,7 @@ outputBy flags script code label =
     (pick (label && not code) (Refused InvalidSilentPayment) Passed))
     (Refused MissingOutputScript)
 
+-- the rule of an output, by what its pairs have
 unfoldable pub outputRule : Bool → List Pair → Ruled
 outputRule flags o = outputBy flags (present (field 0x04 o)) (present (field 0x09 o)) (present (field 0x0a o))
 

@@ -13,6 +13,7 @@ use Rattle.format.specs.declared.MapEntry.{MapEntry}
 abbrev pub pairWords : ℕ
 pairWords = 4
 
+-- and a map's entry
 abbrev pub mapWords : ℕ
 mapWords = 2
 
@@ -24,6 +25,7 @@ hasRoom w n t = leb (n * w + w) (length t)
 unfoldable pub pairEntryWords : PairEntry → List ℕ
 pairEntryWords e = e .key ∷ e .klen ∷ e .value ∷ e .vlen ∷ []
 
+-- the words of a map's entry
 unfoldable pub mapEntryWords : MapEntry → List ℕ
 mapEntryWords e = e .first ∷ e .count ∷ []
 
@@ -31,6 +33,7 @@ mapEntryWords e = e .first ∷ e .count ∷ []
 unfoldable pub putPair : List ℕ → ℕ → PairEntry → List ℕ
 putPair t n e = sets t (n * pairWords) (pairEntryWords e)
 
+-- a map table with entry number n written
 unfoldable pub putMap : List ℕ → ℕ → MapEntry → List ℕ
 putMap t n e = sets t (n * mapWords) (mapEntryWords e)
 
@@ -42,6 +45,7 @@ pairEntries (a ∷ b ∷ []) = []
 pairEntries (a ∷ b ∷ c ∷ []) = []
 pairEntries (a ∷ b ∷ c ∷ d ∷ t) = record { key = a; klen = b; value = c; vlen = d } ∷ pairEntries t
 
+-- the whole entries of a map table
 unfoldable pub mapEntries : List ℕ → List MapEntry
 mapEntries [] = []
 mapEntries (a ∷ []) = []
@@ -64,6 +68,7 @@ width p = length (p .klen) + length (p .key) + length (p .vlen) + length (p .val
 unfoldable pub keyIn : List ℕ → PairEntry → List ℕ
 keyIn f e = take (e .klen) (drop (e .key) f)
 
+-- the value that an entry names
 unfoldable pub valueIn : List ℕ → PairEntry → List ℕ
 valueIn f e = take (e .vlen) (drop (e .value) f)
 

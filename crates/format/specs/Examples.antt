@@ -32,21 +32,27 @@ use Rattle.format.specs.declared.UnsignedTx.the-variants as U
 abbrev pub txVersion : List ℕ
 txVersion = 1 ∷ 0x02 ∷ 4 ∷ 2 ∷ 0 ∷ 0 ∷ 0 ∷ []
 
+-- a fallback of n
 abbrev pub fallback : ℕ → List ℕ
 fallback n = 1 ∷ 0x03 ∷ 4 ∷ bytesOf 4 n
 
+-- a count of n inputs
 abbrev pub inputCount : ℕ → List ℕ
 inputCount n = 1 ∷ 0x04 ∷ 1 ∷ n ∷ []
 
+-- a count of n outputs
 abbrev pub outputCount : ℕ → List ℕ
 outputCount n = 1 ∷ 0x05 ∷ 1 ∷ n ∷ []
 
+-- a modifiable byte
 abbrev pub modifiableByte : ℕ → List ℕ
 modifiableByte n = 1 ∷ 0x06 ∷ 1 ∷ n ∷ []
 
+-- a version
 abbrev pub version : ℕ → List ℕ
 version n = 1 ∷ 0xfb ∷ 4 ∷ n ∷ 0 ∷ 0 ∷ 0 ∷ []
 
+-- the end of a map
 abbrev pub end : List ℕ
 end = 0 ∷ []
 
@@ -54,12 +60,15 @@ end = 0 ∷ []
 abbrev pub txid : List ℕ
 txid = 1 ∷ 0x0e ∷ 0x20 ∷ replicate 32 0x11
 
+-- output index 0
 abbrev pub outputIndex : List ℕ
 outputIndex = 1 ∷ 0x0f ∷ 4 ∷ 0 ∷ 0 ∷ 0 ∷ 0 ∷ []
 
+-- a required time
 abbrev pub time : ℕ → List ℕ
 time n = 1 ∷ 0x11 ∷ 4 ∷ bytesOf 4 n
 
+-- a required height
 abbrev pub height : ℕ → List ℕ
 height n = 1 ∷ 0x12 ∷ 4 ∷ bytesOf 4 n
 
@@ -67,6 +76,7 @@ height n = 1 ∷ 0x12 ∷ 4 ∷ bytesOf 4 n
 abbrev pub amount : List ℕ
 amount = 1 ∷ 0x03 ∷ 8 ∷ 0xe8 ∷ 3 ∷ 0 ∷ 0 ∷ 0 ∷ 0 ∷ 0 ∷ 0 ∷ []
 
+-- a script of one byte
 abbrev pub script : List ℕ
 script = 1 ∷ 0x04 ∷ 1 ∷ 0x51 ∷ []
 
@@ -78,9 +88,11 @@ globals n m early late = magic ++ (txVersion ++ (early ++ (inputCount n ++ (outp
 abbrev pub fileE : List ℕ
 fileE = globals 0 0 [] []
 
+-- file F with a fallback, locks and output pairs of one's own
 abbrev pub fileFWith : List ℕ → List ℕ → List ℕ → List ℕ
 fileFWith early locks outs = globals 1 1 early [] ++ (txid ++ (outputIndex ++ (locks ++ (end ++ (amount ++ (outs ++ end))))))
 
+-- file F
 abbrev pub fileF : List ℕ
 fileF = fileFWith [] [] script
 
@@ -90,17 +102,21 @@ pub data Told : Type 0 where
   accepts : ℕ → ℕ → List ℕ → Told
   acceptsNoTx : ℕ → ℕ → ℕ → Told
 
+-- by the transaction
 unfoldable pub toldTx : ℕ → ℕ → TxOut → Told
 toldTx p m (txOut (U.Refused e) B) = acceptsNoTx p m (numberOf e)
 toldTx p m (txOut (U.Written n t) B) = accepts p m (take n B)
 
+-- no scripts set, no transaction written
 abbrev pub fresh : State
 fresh = record { set = false; written = false }
 
+-- by the parse
 unfoldable pub toldBy : List ℕ → ParseOut → Told
 toldBy f (out (R.Refused e p m) P M) = refused (numberOf e)
 toldBy f (out (R.Accepted s p m) P M) = toldTx p m (unsignedTx (view f P M s) s fresh [] (replicate 64 0))
 
+-- of a file
 unfoldable pub told : List ℕ → Told
 told f = toldBy f (parsed f (replicate 48 0) (replicate 8 0))
 
@@ -119,6 +135,7 @@ pub record Example : Type 0 where
   pub file : List ℕ
   pub tells : Told
 
+-- an example
 abbrev is : List ℕ → Told → Example
 is f t = record { file = f; tells = t }
 
@@ -151,6 +168,7 @@ unfoldable pub computes : List ℕ → Told
 unfolding numberOf only every le bytesOf signed unsigned long sizeBy size shortest countBy count typeOf dataOf keyOf order isBelow isSame below same valueFits isRow rowRule sizesIn sizes countRule bareRule andThen rule find field present number maybe sizeValue counted psbtOf globalRule modifiable outputBy outputRule outputsRule limit ruled valued risen keyed itemBy item front turn items mapped pairEvents mapEvents mapsEvents unless lastly globalThen events hasRoom pairEntryWords mapEntryWords putPair putMap pairEntries mapEntries entryOf width keyIn valueIn shown cut parsed inFile fit fitted heldBy mapsReported held viewOf view gatherBy gather sizedTo inOf askedBy along heights times isMisfit misfitBy misfits greatest heightLock timeLock orZero decideBy wellFormed decide lockOf outOf reportedBy reported taproot entryFits scriptsFit tableFits setSoFar setScript scriptOf ahead needs orFinal inputThen inputsThen needsScript outputThen outputsThen txWith txBy transaction txReported written unsignedTx toldTx toldBy told
 computes = told
 
+-- the proved examples hold
 pub P1-to-P13 : map (λ (x : Example). told (x .file)) proved ≡ map (λ (x : Example). x .tells) proved
 unfolding computes proved
 P1-to-P13 = refl
@@ -167,9 +185,11 @@ pub record Case : Type 0 where
   pub mapWords : ℕ
   pub answer : List ℕ
 
+-- a case
 abbrev case : List ℕ → ℕ → ℕ → List ℕ → Case
 case f p m a = record { file = f; pairWords = p; mapWords = m; answer = a }
 
+-- the answer that the definition gives
 unfoldable pub answer : Case → List ℕ
 answer c = answerOf (parsed (c .file) (replicate (c .pairWords) 9) (replicate (c .mapWords) 9))
 
@@ -177,6 +197,7 @@ answer c = answerOf (parsed (c .file) (replicate (c .pairWords) 9) (replicate (c
 abbrev pub code : List ℕ
 code = 1 ∷ 0x09 ∷ 66 ∷ replicate 66 2
 
+-- an output's label 0a
 abbrev pub label : List ℕ
 label = 1 ∷ 0x0a ∷ 4 ∷ 0 ∷ 0 ∷ 0 ∷ 0 ∷ []
 
@@ -234,6 +255,7 @@ orders =
     ∷ case (globals 0 2 [] (modifiableByte 1) ++ (end ++ (script ++ (code ++ end)))) 28 6 (17 ∷ 7 ∷ 3 ∷ [])
     ∷ []
 
+-- each case has its answer
 pub refusals-in-order : map answer orders ≡ map (λ (c : Case). c .answer) orders
 unfolding computes answerOf answer orders
 refusals-in-order = refl
@@ -245,6 +267,7 @@ pub record Trace : Type 0 where
   pub maps : List ℕ
   pub after : ParseOut
 
+-- a trace
 abbrev trace : List ℕ → List ℕ → List ℕ → ParseOut → Trace
 trace f P M o = record { file = f; pairs = P; maps = M; after = o }
 
@@ -252,6 +275,7 @@ trace f P M o = record { file = f; pairs = P; maps = M; after = o }
 abbrev pub psbtE : Psbt
 psbtE = record { «tx_version» = pos 2; «fallback_locktime» = Absent; «tx_modifiable» = Absent; inputs = 0; outputs = 0 }
 
+-- what is reported of F
 abbrev pub psbtF : Psbt
 psbtF = record { «tx_version» = pos 2; «fallback_locktime» = Absent; «tx_modifiable» = Absent; inputs = 1; outputs = 1 }
 
@@ -263,9 +287,11 @@ psbtOdd = record { «tx_version» = negsuc 0; «fallback_locktime» = Present 0;
 abbrev pub pairsE : List ℕ
 pairsE = 6 ∷ 1 ∷ 8 ∷ 4 ∷ 13 ∷ 1 ∷ 15 ∷ 1 ∷ 17 ∷ 1 ∷ 19 ∷ 1 ∷ 21 ∷ 1 ∷ 23 ∷ 4 ∷ []
 
+-- the pair entries that F leaves
 abbrev pub pairsF : List ℕ
 pairsF = pairsE ++ (29 ∷ 1 ∷ 31 ∷ 32 ∷ 64 ∷ 1 ∷ 66 ∷ 4 ∷ 72 ∷ 1 ∷ 74 ∷ 8 ∷ 83 ∷ 1 ∷ 85 ∷ 1 ∷ [])
 
+-- the map entries that F leaves
 abbrev pub mapsF : List ℕ
 mapsF = 0 ∷ 4 ∷ 4 ∷ 2 ∷ 6 ∷ 2 ∷ []
 
@@ -283,6 +309,7 @@ traces =
     ∷ trace (globals 0 1 [] [] ++ end) (replicate 17 9) (replicate 5 9) (out (R.Refused MissingOutputScript 4 2) (pairsE ++ (9 ∷ [])) (0 ∷ 4 ∷ 4 ∷ 0 ∷ 9 ∷ []))
     ∷ []
 
+-- each trace ends as it says
 pub tables-as-left : map (λ (t : Trace). parsed (t .file) (t .pairs) (t .maps)) traces ≡ map (λ (t : Trace). t .after) traces
 unfolding computes traces
 tables-as-left = refl
@@ -292,6 +319,7 @@ unfoldable pub allListed : List SizedType → Bool
 allListed [] = true
 allListed (r ∷ rs) = within (listedTypes (r .kind)) (r .tag) && allListed rs
 
+-- so it is
 pub sized-are-listed : allListed sizedTypes ≡ true
 unfolding allListed within listedTypes span
 sized-are-listed = refl

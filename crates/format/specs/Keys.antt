@@ -28,11 +28,13 @@ order [] (y ∷ b) = Below
 order (x ∷ a) [] = Above
 order (x ∷ a) (y ∷ b) = pick (ltb x y) Below (pick (ltb y x) Above (order a b))
 
+-- the answer is below
 unfoldable pub isBelow : Order → Bool
 isBelow Below = true
 isBelow Same = false
 isBelow Above = false
 
+-- the answer is same
 unfoldable pub isSame : Order → Bool
 isSame Below = false
 isSame Same = true

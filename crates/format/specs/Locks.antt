@@ -20,6 +20,7 @@ pub data Sized : Type 0 where
   misfit : Sized
   is : List ℕ → Sized
 
+-- a value held to w bytes
 unfoldable pub sizedTo : ℕ → Found → Sized
 sizedTo w absent = missing
 sizedTo w (found v) = pick (eqb (length v) w) (is v) misfit
@@ -32,6 +33,7 @@ pub record In : Type 0 where
   pub time : Sized
   pub height : Sized
 
+-- from an input's pairs
 unfoldable pub inOf : List Pair → In
 inOf ps = record {
   txid = sizedTo 32 (field 0x0e ps);
@@ -65,6 +67,7 @@ along f i (x ∷ xs) = f x i ++ along f (i + 1) xs
 unfoldable pub heights : ℕ → List In → List Asked
 heights i ins = along (λ x. askedBy (x .height)) i ins
 
+-- the times asked for
 unfoldable pub times : ℕ → List In → List Asked
 times i ins = along (λ x. askedBy (x .time)) i ins
 
@@ -78,6 +81,7 @@ isMisfit (is v) = false
 unfoldable pub misfitBy : In → ℕ → List ℕ
 misfitBy x i = keepIf (isMisfit (x .height) || isMisfit (x .time)) i []
 
+-- the numbers of the inputs with such a field
 unfoldable pub misfits : ℕ → List In → List ℕ
 misfits i ins = along misfitBy i ins
 
@@ -90,9 +94,11 @@ greatest a (b ∷ bs) = greatest (pick (ltb (a .number) (b .number)) b a) bs
 unfoldable pub heightLock : Asked → Lock
 heightLock a = pick (ltb (a .number) threshold) (Height (a .number) (a .input)) (HeightTooGreat (a .number) (a .input))
 
+-- a greatest time must be a time
 unfoldable pub timeLock : Asked → Lock
 timeLock a = pick (leb threshold (a .number)) (Time (a .number) (a .input)) (TimeTooSmall (a .number) (a .input))
 
+-- the fallback, absent 0
 unfoldable pub orZero : Maybe → ℕ
 orZero Absent = 0
 orZero (Present n) = n
@@ -104,6 +110,7 @@ decideBy fallback (h ∷ hs) [] = heightLock (greatest h hs)
 decideBy fallback [] (t ∷ ts) = timeLock (greatest t ts)
 decideBy fallback (h ∷ hs) (t ∷ ts) = BothKinds (h .input) (t .input)
 
+-- no lock field may have a wrong length
 unfoldable pub wellFormed : List ℕ → Lock → Lock
 wellFormed [] l = l
 wellFormed (i ∷ more) l = Malformed i
@@ -117,6 +124,7 @@ pub data Locked : Type 0 where
   unlocked : PsbtError → Locked
   locked : ℕ → Locked
 
+-- the lock time that was decided, or the refusal
 unfoldable pub lockOf : Lock → Locked
 lockOf (Refused e) = unlocked e
 lockOf (Height n i) = locked n

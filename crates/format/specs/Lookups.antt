@@ -33,6 +33,7 @@ pub data Length : Type 0 where
   exactly : ℕ → Length
   keyList : Length
 
+-- a value of n bytes has a right length
 unfoldable pub lengthFits : Length → ℕ → Bool
 lengthFits anyLength n = true
 lengthFits (exactly w) n = eqb n w
@@ -84,6 +85,7 @@ nthOf i [] = K.Refused OutOfRange
 nthOf zero (e ∷ es) = K.Is e
 nthOf (suc i) (e ∷ es) = nthOf i es
 
+-- pair number i of a map
 unfoldable pub nth : ℕ → Held → Nth
 nth i (no e) = K.Refused e
 nth i (holds es) = nthOf i es
@@ -93,6 +95,7 @@ unfoldable pub keyPart : List ℕ → Nth → List ℕ
 keyPart f (K.Refused e) = []
 keyPart f (K.Is e) = keyIn f e
 
+-- the part that is its value
 unfoldable pub valuePart : List ℕ → Nth → List ℕ
 valuePart f (K.Refused e) = []
 valuePart f (K.Is e) = valueIn f e

@@ -19,5 +19,6 @@ bytesOf (suc w) n = n % 256 ∷ bytesOf w (n / 256)
 unfoldable pub signed : ℕ → ℤ
 signed n = toZ w32 n
 
+-- a signed number's 32 bits
 unfoldable pub unsigned : ℤ → ℕ
 unsigned z = ofZ w32 z

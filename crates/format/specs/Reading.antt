@@ -64,6 +64,7 @@ pub data Mapped : Type 0 where
   ends : List Pair → List ℕ → List ℕ → Mapped
   stops : List Pair → PsbtError → Mapped
 
+-- a pair in front
 unfoldable pub front : Pair → Mapped → Mapped
 front p (ends ps a r) = ends (p ∷ ps) a r
 front p (stops ps e) = stops (p ∷ ps) e
@@ -91,6 +92,7 @@ pub data Reading : Type 0 where
   pair : Pair → Reading → Reading
   ended : List ℕ → Reading → Reading
 
+-- pairs pass, and then t
 unfoldable pub pairEvents : List Pair → Reading → Reading
 pairEvents [] t = t
 pairEvents (p ∷ ps) t = pair p (pairEvents ps t)
@@ -133,6 +135,7 @@ pub data Verdict : Type 0 where
   accepted : Content → Verdict
   refused : PsbtError → Verdict
 
+-- the verdict at the end of a reading
 unfoldable pub outcome : Reading → Verdict
 outcome (done c) = accepted c
 outcome (refusal e) = refused e
@@ -140,5 +143,6 @@ outcome (begins r) = outcome r
 outcome (pair p r) = outcome r
 outcome (ended a r) = outcome r
 
+-- the verdict on a file
 unfoldable pub reading : List ℕ → Verdict
 reading f = outcome (events f)

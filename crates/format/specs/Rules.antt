@@ -18,9 +18,11 @@ use Rattle.format.specs.declared.SizedType.{SizedType}
 abbrev pub GLOBAL : ℕ
 GLOBAL = 0
 
+-- a map of an input
 abbrev pub INPUT : ℕ
 INPUT = 1
 
+-- a map of an output
 abbrev pub OUTPUT : ℕ
 OUTPUT = 2
 
@@ -29,9 +31,11 @@ pub record Span : Type 0 where
   pub from : ℕ
   pub to : ℕ
 
+-- the types from a to b
 unfoldable pub span : ℕ → ℕ → Span
 span a b = record { from = a; to = b }
 
+-- a type is in one of some spans
 unfoldable pub within : List Span → ℕ → Bool
 within [] t = false
 within (s ∷ ss) t = (leb (s .from) t && leb t (s .to)) || within ss t

@@ -22,6 +22,7 @@ pub record Out : Type 0 where
   pub amount : Sized
   pub script : Found
 
+-- from an output's pairs
 unfoldable pub outOf : List Pair → Out
 outOf ps = record { amount = sizedTo 8 (field 0x03 ps); script = field 0x04 ps }
 
@@ -30,10 +31,12 @@ pub data Reported : Type 0 where
   unfitMap : PsbtError → Reported
   reports : List In → List Out → Reported
 
+-- n inputs behind the global map, and the rest outputs
 unfoldable pub reportedBy : ℕ → Gathered → Reported
 reportedBy n (unfit e) = unfitMap e
 reportedBy n (gathered l) = reports (map inOf (take n (drop 1 l))) (map outOf (drop (1 + n) l))
 
+-- of the maps that are reported
 unfoldable pub reported : (ℕ → View) → Psbt → Reported
 reported v s = reportedBy (s .inputs) (gather v 0 (mapsReported s))
 
@@ -63,6 +66,7 @@ pub data Given : Type 0 where
   whole : List Assignment → Given
   cutShort : Given
 
+-- an assignment in front of others
 unfoldable pub andMore : Assignment → Given → Given
 andMore a (whole xs) = whole (a ∷ xs)
 andMore a cutShort = cutShort
@@ -105,17 +109,20 @@ unfoldable pub afterSet : State → List Out → State
 afterSet t [] = t
 afterSet t (o ∷ os) = record { set = true; written = t .written }
 
+-- room for an entry per output is tested last
 unfoldable pub setTable : List Out → List ℕ → State → List ℕ → List Assignment → SetOut
 setTable outs buffer t T xs =
     pick (leb (scriptEntry * length outs) (length T))
     (setOut (Done (afterSet t outs)) (entriesFor buffer xs 0 outs ++ drop (scriptEntry * length outs) T))
     (setOut (Refused NoRoom) T)
 
+-- scripts may still be set, and the assignments are right
 unfoldable pub setGiven : List Out → List ℕ → State → List ℕ → Given → SetOut
 setGiven outs buffer t T cutShort = setOut (Refused InvalidOutputScripts) T
 setGiven outs buffer t T (whole xs) =
     pick (settable t && rightFor outs buffer xs) (setTable outs buffer t T xs) (setOut (Refused InvalidOutputScripts) T)
 
+-- no reported map is unfit
 unfoldable pub setBy : List ℕ → State → List ℕ → Given → Reported → SetOut
 setBy buffer t T g (unfitMap e) = setOut (Refused e) T
 setBy buffer t T g (reports ins outs) = setGiven outs buffer t T g

@@ -28,6 +28,7 @@ pub data Held : Type 0 where
   no : PsbtError → Held
   holds : List PairEntry → Held
 
+-- entries, if they are fit
 unfoldable pub fitted : List ℕ → List PairEntry → Held
 fitted f es = pick (fit f [] es) (holds es) (no BadIndex)
 
@@ -48,6 +49,7 @@ held f P M s m = pick (ltb m (mapsReported s)) (heldBy f (pairEntries P) (drop m
 unfoldable pub heldInput : List ℕ → List ℕ → List ℕ → Psbt → ℕ → Held
 heldInput f P M s i = pick (ltb i (s .inputs)) (held f P M s (1 + i)) (no OutOfRange)
 
+-- output number i
 unfoldable pub heldOutput : List ℕ → List ℕ → List ℕ → Psbt → ℕ → Held
 heldOutput f P M s i = pick (ltb i (s .outputs)) (held f P M s (1 + (s .inputs + i))) (no OutOfRange)
 
@@ -56,10 +58,12 @@ pub data View : Type 0 where
   hides : PsbtError → View
   shows : List Pair → View
 
+-- what a map's entries show
 unfoldable pub viewOf : List ℕ → Held → View
 viewOf f (no e) = hides e
 viewOf f (holds es) = shows (map (shown f) es)
 
+-- what map number m shows
 unfoldable pub view : List ℕ → List ℕ → List ℕ → Psbt → ℕ → View
 view f P M s m = viewOf f (held f P M s m)
 
@@ -68,11 +72,13 @@ pub data Gathered : Type 0 where
   unfit : PsbtError → Gathered
   gathered : List (List Pair) → Gathered
 
+-- a map in front of others
 unfoldable pub gatherBy : View → Gathered → Gathered
 gatherBy (hides e) g = unfit e
 gatherBy (shows ps) (unfit e) = unfit e
 gatherBy (shows ps) (gathered l) = gathered (ps ∷ l)
 
+-- n maps from number i on
 unfoldable pub gather : (ℕ → View) → ℕ → ℕ → Gathered
 gather v i zero = gathered []
 gather v i (suc n) = gatherBy (v i) (gather v (i + 1) n)

@@ -43,33 +43,40 @@ pub data Told : Type 0 where
 abbrev pub nat : ℕ → Value
 nat n = int (pos n)
 
+-- a number that may be absent
 unfoldable pub maybeValue : Maybe → Value
 maybeValue Absent = none
 maybeValue (Present n) = nat n
 
+-- of a parse: version, fallback, modifiable, both counts and the entries used; of a refusal the entries used
 unfoldable pub toldParsed : Parsed → Told
 toldParsed (P.Accepted s p m) =
     told 0 (int (s .«tx_version») ∷ maybeValue (s .«fallback_locktime») ∷ maybeValue (s .«tx_modifiable») ∷ nat (s .inputs) ∷ nat (s .outputs) ∷ nat p ∷ nat m ∷ [])
 toldParsed (P.Refused e p m) = told (numberOf e) (nat p ∷ nat m ∷ [])
 
+-- of a lookup: start and length
 unfoldable pub toldLooked : Looked → Told
 toldLooked (K.Refused e) = told (numberOf e) []
 toldLooked K.Absent = told 0 []
 toldLooked (K.At s n) = told 0 (nat s ∷ nat n ∷ [])
 
+-- of a number
 unfoldable pub toldNumbered : Numbered → Told
 toldNumbered (N.Refused e) = told (numberOf e) []
 toldNumbered N.Absent = told 0 []
 toldNumbered (N.Is n) = told 0 (nat n ∷ [])
 
+-- of a listing: first pair and count
 unfoldable pub toldListing : Listing → Told
 toldListing (L.Refused e) = told (numberOf e) []
 toldListing (L.Pairs i n) = told 0 (nat i ∷ nat n ∷ [])
 
+-- of a pair: key start, key length, value start, value length
 unfoldable pub toldNth : Nth → Told
 toldNth (I.Refused e) = told (numberOf e) []
 toldNth (I.Is e) = told 0 (nat (e .key) ∷ nat (e .klen) ∷ nat (e .value) ∷ nat (e .vlen) ∷ [])
 
+-- of a witness UTXO: amount, script start, script length
 unfoldable pub toldUtxo : Utxo → Told
 toldUtxo (U.Refused e) = told (numberOf e) []
 toldUtxo U.Absent = told 0 []
@@ -86,10 +93,12 @@ toldLock (D.HeightTooGreat n i) = told 7 (nat 2 ∷ nat n ∷ nat i ∷ [])
 toldLock (D.TimeTooSmall n i) = told 7 (nat 3 ∷ nat n ∷ nat i ∷ [])
 toldLock (D.Malformed i) = told 7 (nat 4 ∷ nat i ∷ [])
 
+-- of the setter: whether scripts are set, whether a transaction was written
 unfoldable pub toldSet : ScriptsSet → Told
 toldSet (S.Refused e) = told (numberOf e) []
 toldSet (S.Done t) = told 0 (flag (t .set) ∷ flag (t .written) ∷ [])
 
+-- of a transaction: its length, and the state
 unfoldable pub toldTx : UnsignedTx → Told
 toldTx (X.Refused e) = told (numberOf e) []
 toldTx (X.Written n t) = told 0 (nat n ∷ flag (t .set) ∷ flag (t .written) ∷ [])
@@ -98,14 +107,18 @@ toldTx (X.Written n t) = told 0 (nat n ∷ flag (t .set) ∷ flag (t .written) �
 pub data ToldParse : Type 0 where
   toldWith : Told → List ℕ → List ℕ → ToldParse
 
+-- of a parse with both its tables
 unfoldable pub toldParse : ParseOut → ToldParse
 toldParse (out r P M) = toldWith (toldParsed r) P M
 
+-- an answer as told, with one buffer
 pub data ToldOut : Type 0 where
   toldLeft : Told → List ℕ → ToldOut
 
+-- of the setter with the script table
 unfoldable pub toldSetOut : SetOut → ToldOut
 toldSetOut (setOut r T) = toldLeft (toldSet r) T
 
+-- of a transaction with its buffer
 unfoldable pub toldTxOut : TxOut → ToldOut
 toldTxOut (txOut r B) = toldLeft (toldTx r) B

@@ -76,6 +76,7 @@ orFinal (is v) = is v
 unfoldable pub inputThen : In → Tx → Tx
 inputThen x t = needs (x .txid) (λ a. needs (x .index) (λ b. needs (orFinal (x .sequence)) (λ c. ahead (a ++ (b ++ (0 ∷ c))) t)))
 
+-- inputs in order, and then t
 unfoldable pub inputsThen : List In → Tx → Tx
 inputsThen [] t = t
 inputsThen (x ∷ xs) t = inputThen x (inputsThen xs t)
@@ -89,6 +90,7 @@ needsScript (found s) k = k s
 unfoldable pub outputThen : Out → List ℕ → Tx → Tx
 outputThen o e t = needs (o .amount) (λ a. needsScript (scriptOf (o .script) e) (λ s. ahead (a ++ (shortest (length s) ++ s)) t))
 
+-- outputs in order, each with its entry of the script table, and then t
 unfoldable pub outputsThen : List Out → List ℕ → Tx → Tx
 outputsThen [] T t = t
 outputsThen (o ∷ os) T t = outputThen o (take scriptEntry T) (outputsThen os (drop scriptEntry T) t)
@@ -117,6 +119,7 @@ txReported s t T (reports ins outs) = pick (tableFits t outs T) (transaction s i
 pub data TxOut : Type 0 where
   txOut : UnsignedTx → List ℕ → TxOut
 
+-- room is tested last, and bytes behind the transaction stay
 unfoldable pub written : State → List ℕ → Tx → TxOut
 written t B (refuses e) = txOut (Refused e) B
 written t B (writes x) =
@@ -133,5 +136,6 @@ unfoldable pub lockBy : Psbt → Reported → Lock
 lockBy s (unfitMap e) = L.Refused e
 lockBy s (reports ins outs) = decide (s .«fallback_locktime») ins
 
+-- of what maps show
 unfoldable pub lockDecided : (ℕ → View) → Psbt → Lock
 lockDecided v s = lockBy s (reported v s)

@@ -3,6 +3,8 @@ use Prim.Native.Nat.{ℕ, _+_, _*_}
 use mathlib.Core.Bool.{Bool, true, false, _&&_}
 use mathlib.Core.List.{List, [], _∷_, _++_}
 use lib.ListN.{length, take, drop}
+use lib.Dec.{leb}
+use Rattle.format.specs.Tests.{pick}
 use Rattle.format.specs.Numbers.{bytesOf, unsigned}
 use Rattle.format.specs.Compact.{shortest}
 use Rattle.format.specs.Content.{Found, absent, found}
@@ -31,6 +33,18 @@ isThere (is v) = true
 unfoldable pub inputOk : In → Bool
 inputOk x = isThere (x .txid) && (isThere (x .index) && isThere (orFinal (x .sequence)))
 
+-- its bytes
+unfoldable pub inputBytes : In → List ℕ
+inputBytes x = bytesIn (x .txid) ++ (bytesIn (x .index) ++ (0 ∷ bytesIn (orFinal (x .sequence))))
+
+unfoldable pub inputsBytes : List In → List ℕ
+inputsBytes [] = []
+inputsBytes (x ∷ xs) = inputBytes x ++ inputsBytes xs
+
+-- how many bytes an input takes
+abbrev pub inputLength : ℕ
+inputLength = 41
+
 -- an output with the script that it has by now, the table's entry being e
 unfoldable pub scripted : Out → List ℕ → Out
 scripted o e = record { amount = o .amount; script = scriptOf (o .script) e }
@@ -39,21 +53,32 @@ unfoldable pub allScripted : List Out → List ℕ → List Out
 allScripted [] T = []
 allScripted (o ∷ os) T = scripted o (take scriptEntry T) ∷ allScripted os (drop scriptEntry T)
 
--- the bytes of a script that may be absent
+-- the bytes of a script that may be absent, and of an output with such a script
 unfoldable pub scriptBytes : Found → List ℕ
 scriptBytes absent = []
 scriptBytes (found s) = s
 
--- how many bytes an input, and an output with such a script, takes
-abbrev pub inputLength : ℕ
-inputLength = 41
+unfoldable pub outBytes : Sized → List ℕ → List ℕ
+outBytes a s = bytesIn a ++ (shortest (length s) ++ s)
 
+unfoldable pub outsBytes : List Out → List ℕ
+outsBytes [] = []
+outsBytes (o ∷ os) = outBytes (o .amount) (scriptBytes (o .script)) ++ outsBytes os
+
+-- how many bytes an output with script s takes
 unfoldable pub outLength : List ℕ → ℕ
 outLength s = 8 + (sizeLength (length s) + length s)
 
 unfoldable pub outsLength : List Out → ℕ
 outsLength [] = 0
 outsLength (o ∷ os) = outLength (scriptBytes (o .script)) + outsLength os
+
+-- the greatest number of 64 bits, and a number that no longer grows past it: more than any buffer has
+abbrev pub greatest : ℕ
+greatest = 18446744073709551615
+
+unfoldable pub capped : ℕ → ℕ
+capped n = pick (leb n greatest) n greatest
 
 -- an output's measure: amount missing, then script missing
 unfoldable pub measureBy : Sized → Found → Measure
@@ -68,11 +93,15 @@ outMeasure o = measureBy (o .amount) (o .script)
 -- n bytes and then the outputs
 unfoldable pub moreBy : (ℕ → Measure) → ℕ → Measure → Measure
 moreBy k n (Refused e) = Refused e
-moreBy k n (Takes w) = k (n + w)
+moreBy k n (Takes w) = k (capped (n + w))
 
 unfoldable pub outsMeasure : List Out → ℕ → Measure
 outsMeasure [] n = Takes n
 outsMeasure (o ∷ os) n = moreBy (outsMeasure os) n (outMeasure o)
+
+-- all but the outputs of a transaction with n inputs and m outputs
+unfoldable pub fixedLength : ℕ → ℕ → ℕ
+fixedLength n m = n * inputLength + (8 + sizeLength n + sizeLength m)
 
 -- a place, and the buffer as it is there
 pub data Put : Type 0 where
@@ -94,3 +123,19 @@ putOutput B at a s = wrote (wrote (wrote B at (bytesIn a)) (at + 8) (shortest (l
 unfoldable pub putOutputs : List ℕ → ℕ → List Out → Put
 putOutputs B at [] = put at B
 putOutputs B at (o ∷ os) = putOutputs (putOutput B at (o .amount) (scriptBytes (o .script))) (at + outLength (scriptBytes (o .script))) os
+
+-- the transaction written from the front on: version and inputs, then outputs, then the lock time
+unfoldable pub putLock : ℕ → Put → List ℕ
+putLock n (put at B) = wrote B at (bytesOf 4 n)
+
+unfoldable pub putRest : List Out → ℕ → Put → List ℕ
+putRest outs n (put at B) = putLock n (putOutputs (wrote B at (shortest (length outs))) (at + sizeLength (length outs)) outs)
+
+unfoldable pub putTx : List ℕ → Psbt → List In → List Out → ℕ → List ℕ
+putTx B s ins outs n =
+    putRest outs n (putInputs (wrote (wrote B 0 (bytesOf 4 (unsigned (s .«tx_version»)))) 4 (shortest (length ins))) (4 + sizeLength (length ins)) ins)
+
+-- its bytes
+unfoldable pub txBytes : Psbt → List In → List Out → ℕ → List ℕ
+txBytes s ins outs n =
+    (bytesOf 4 (unsigned (s .«tx_version»)) ++ shortest (length ins)) ++ (inputsBytes ins ++ (shortest (length outs) ++ (outsBytes outs ++ bytesOf 4 n)))

@@ -78,7 +78,7 @@ module _ (D₀ : List ℕ) (at : ℕ) (S D : List ℕ) (j : ℕ) (k : Copying D�
 
 pub ruleset copies = (copy-first, copy-in, copy-fits, copy-more, copy-done)
 
--- a byte and then a number
+-- a byte and then more
 module _ (B : List ℕ) (at w : ℕ) (h : at + (1 + w) ≤ length B) where
   pub tag-in : at < length B
   tag-in = omega arith
@@ -89,9 +89,9 @@ module _ (B : List ℕ) (at w : ℕ) (h : at + (1 + w) ≤ length B) where
   pub tag-room : (tag : ℕ) → at + 1 + w ≤ length (set B at tag)
   tag-room tag = rw (length-set B at tag) (omega arith)
 
-pub tag-is : (B B₁ : List ℕ) (at tag x w : ℕ) → B₁ ≡ wrote (set B at tag) (at + 1) (bytesOf w x) → B₁ ≡ wrote B at (tag ∷ bytesOf w x)
+pub tag-is : (B B₁ : List ℕ) (at tag : ℕ) (xs : List ℕ) → B₁ ≡ wrote (set B at tag) (at + 1) xs → B₁ ≡ wrote B at (tag ∷ xs)
 unfolding wrote
-tag-is B B₁ at tag x w e = e ∙ rw (add-one at)
+tag-is B B₁ at tag xs e = e ∙ rw (add-one at)
 
 pub tag-long : (B B₁ : List ℕ) (at tag i : ℕ) (xs : List ℕ) → B₁ ≡ wrote (set B at tag) i xs → length B₁ ≡ length B
 tag-long B B₁ at tag i xs e = wrote-long (set B at tag) B₁ i xs e ∙ length-set B at tag

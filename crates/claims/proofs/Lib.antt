@@ -1,0 +1,3 @@
+pub mod Strikes
+pub mod Newers
+pub mod Calls

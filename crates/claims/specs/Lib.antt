@@ -1,0 +1,4 @@
+pub mod Answers
+pub mod Newer
+pub mod Calls
+pub mod Examples

@@ -1,0 +1,1 @@
+// The claims about added and struck pairs; no code.

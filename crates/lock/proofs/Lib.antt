@@ -1,0 +1,3 @@
+pub mod Wishes
+pub mod Decisions
+pub mod Locks

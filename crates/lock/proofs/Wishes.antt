@@ -1,0 +1,136 @@
+-- Laws of what one input asks for, one for each way through the functions that gather it.
+use mathlib.Core.Path.{_≡_, refl, sym, _∙_, ap}
+use mathlib.Core.Bool.{Bool, true, false}
+use mathlib.Core.List.{List, map}
+use Prim.Native.Nat.{ℕ, _+_, _-_, _^_, _≤_, _<_}
+use native.Mathlib.Omega.{arith}
+use borrow.Author.Tests.{lt-ltb, le-ltb}
+use lib.ListN.{length, take, drop}
+use mir.Syntax.{w64}
+use mir.Val.{Fits}
+use Rattle.format.specs.Content.{Found, field}
+use Rattle.format.specs.Entries.{shown}
+use Rattle.format.specs.Locks.{sizedTo}
+use Rattle.format.specs.declared.MapEntry.{MapEntry}
+use Rattle.wire.specs.Leads.{lead}
+use Rattle.wire.proofs.Sizes.{part-rest}
+use Rattle.entries.specs.Words.{mapAt}
+use Rattle.entries.proofs.Tables.{map-count}
+use Rattle.lookup.specs.Fits.{entriesOf}
+use Rattle.all_maps.specs.Alls.{Usable, Whole, inAt}
+use Rattle.all_maps.specs.Places.{sizedIn}
+use Rattle.all_maps.specs.declared.SizedAt.{SizedAt}
+use Rattle.all_maps.specs.declared.SizedAt.the-variants as S
+use Rattle.all_maps.proofs.Fields.{sized-lies, in-time, in-height}
+use Rattle.lock.specs.declared.Wish.{Wish}
+use Rattle.lock.specs.declared.Wish.the-variants.{Nothing, Wrong, Number}
+use Rattle.lock.specs.declared.Most.{Most}
+use Rattle.lock.specs.declared.Kind.{Kind}
+use Rattle.lock.specs.declared.Kind.the-variants.{Unasked, Asked}
+use Rattle.lock.specs.declared.Fault.{Fault}
+use Rattle.lock.specs.declared.Fault.the-variants.{Nowhere, Input}
+use Rattle.lock.specs.declared.Asks.{Asks}
+use Rattle.lock.specs.Asks.{wishOf, isWrong, raised, toppedBy, faultBy, seen, seenIn}
+
+-- what a field asks for, by where it stands
+module _ (f : List ℕ) (o : SizedAt) (y : Found) (k : sizedIn 4 f o ≡ sizedTo 4 y) where
+  wish-by : (x : SizedAt) → o ≡ x → wishOf (sizedIn 4 f x) ≡ wishOf (sizedTo 4 y)
+  wish-by x e = ap wishOf (sym (ap (sizedIn 4 f) e) ∙ k)
+
+  pub wish-missing : o ≡ S.Missing → Nothing ≡ wishOf (sizedTo 4 y)
+  unfolding wishOf sizedIn
+  wish-missing e = wish-by S.Missing e
+
+  pub wish-wrong : o ≡ S.Misfit → Wrong ≡ wishOf (sizedTo 4 y)
+  unfolding wishOf sizedIn
+  wish-wrong e = wish-by S.Misfit e
+
+  module _ (s : ℕ) (e : o ≡ S.At s) where
+    pub wish-in : s ≤ length f
+    wish-in = omega (arith, sized-lies 4 f o y s k (omega arith) e)
+
+    pub wish-number : (n : ℕ) → n ≡ lead 4 (take (length f - s) (drop s f)) → Number n ≡ wishOf (sizedTo 4 y)
+    unfolding wishOf sizedIn lead
+    wish-number n q = ap Number (q ∙ ap (lead 4) (part-rest s f)) ∙ wish-by (S.At s) e
+
+pub ruleset wishes = (wish-missing, wish-wrong, wish-in, wish-number)
+
+pub wrong-by : (w x : Wish) (b : Bool) → w ≡ x → b ≡ isWrong x → b ≡ isWrong w
+wrong-by w x b e h = h ∙ sym (ap isWrong e)
+
+-- one more number
+module _ (k : Kind) (n i : ℕ) where
+  pub raise-first : k ≡ Unasked → Asked (record { first = i; number = n; input = i }) ≡ raised k n i
+  unfolding raised
+  raise-first e = rw e
+
+  module _ (m : Most) (e : k ≡ Asked m) where
+    pub raise-more : m .number < n → Asked (record { first = m .first; number = n; input = i }) ≡ raised k n i
+    unfolding raised
+    raise-more h = rw (e, lt-ltb (m .number) n h)
+
+    pub raise-same : n ≤ m .number → Asked m ≡ raised k n i
+    unfolding raised
+    raise-same h = rw (e, le-ltb (m .number) n h)
+
+pub ruleset raises = (raise-first, raise-more, raise-same)
+
+-- one more wish
+module _ (k : Kind) (w : Wish) (i : ℕ) where
+  pub more-nothing : w ≡ Nothing → k ≡ toppedBy k w i
+  unfolding toppedBy
+  more-nothing e = rw e
+
+  pub more-wrong : w ≡ Wrong → k ≡ toppedBy k w i
+  unfolding toppedBy
+  more-wrong e = rw e
+
+  pub more-number : (n : ℕ) (r : Kind) → w ≡ Number n → r ≡ raised k n i → r ≡ toppedBy k w i
+  unfolding toppedBy
+  more-number n r e q = rw e q
+
+pub ruleset mores = (more-nothing, more-wrong, more-number)
+
+-- the first fault
+module _ (c : Fault) (h t : Wish) (i : ℕ) where
+  pub fault-old : (j : ℕ) → c ≡ Input j → Input j ≡ faultBy c h t i
+  unfolding faultBy
+  fault-old j e = rw e
+
+  module _ (e : c ≡ Nowhere) (a : Bool) (ea : a ≡ isWrong h) where
+    pub fault-height : a ≡ true → Input i ≡ faultBy c h t i
+    unfolding faultBy
+    fault-height p = rw (e, sym ea ∙ p)
+
+    module _ (p : a ≡ false) (b : Bool) (eb : b ≡ isWrong t) where
+      pub fault-time : b ≡ true → Input i ≡ faultBy c h t i
+      unfolding faultBy
+      fault-time q = rw (e, sym ea ∙ p, sym eb ∙ q)
+
+      pub fault-none : b ≡ false → Nowhere ≡ faultBy c h t i
+      unfolding faultBy
+      fault-none q = rw (e, sym ea ∙ p, sym eb ∙ q)
+
+pub ruleset faults = (fault-old, fault-height, fault-time, fault-none)
+
+-- one more input
+pub see-is : (a : Asks) (i : ℕ) (h t : Wish) (c : Fault) (x y : Kind) → c ≡ faultBy (a .fault) h t i → x ≡ toppedBy (a .height) h i → y ≡ toppedBy (a .time) t i
+    → record { fault = c; height = x; time = y } ≡ seen a i h t
+unfolding seen
+see-is a i h t c x y p q r = λ j. record { fault = p j; height = q j; time = r j }
+
+module _ (f P M : List ℕ) (i : ℕ) (w : Whole f P M (1 + i)) where
+  pub next-fits : length M < 2 ^ 64 → Fits w64 (1 + i)
+  next-fits l = record { fits = omega (arith, w .listed, map-count M) }
+
+  module _ (m : MapEntry) (at : m ≡ mapAt M (1 + i)) where
+    pub next-usable : Usable f P m
+    next-usable = rw at (w .usable)
+
+    pub see-input : (a r : Asks) (h t : Wish) → h ≡ wishOf (sizedTo 4 (field 0x12 (map (shown f) (entriesOf P m)))) → t ≡ wishOf (sizedTo 4 (field 0x11 (map (shown f) (entriesOf P m))))
+        → r ≡ seen a i h t → r ≡ seenIn a i (inAt f P M i)
+    unfolding seenIn
+    see-input a r h t eh et q =
+        q ∙ rw (eh ∙ ap wishOf (in-height f P M i m at _ refl), et ∙ ap wishOf (in-time f P M i m at _ refl))
+
+pub ruleset sees = (next-fits, next-usable, see-input)

@@ -1,0 +1,281 @@
+// The lock time of a transaction, and what decided it. Nothing else looks inside the rule.
+use all_maps::SizedAt;
+use format::Lock;
+use format::MapEntry;
+use format::Maybe;
+use format::PSBT_IN_REQUIRED_HEIGHT_LOCKTIME;
+use format::PSBT_IN_REQUIRED_TIME_LOCKTIME;
+use format::Psbt;
+use format::PsbtError;
+use format::Ruled;
+ghost use mathlib.Core.Path.{_≡_};
+ghost use mathlib.Core.List.{map};
+ghost use Prim.Native.Nat.{_+_};
+ghost use Rattle.format.specs.Content.{field};
+ghost use Rattle.format.specs.Entries.{shown};
+ghost use Rattle.format.specs.Tables.{view};
+ghost use Rattle.format.specs.Locks.{sizedTo, orZero, lockOf};
+ghost use Rattle.format.specs.Transaction.{lockDecided};
+ghost use Rattle.format.specs.Told.{toldLock};
+ghost use Rattle.lookup.specs.Fits.{entriesOf};
+ghost use Rattle.all_maps.specs.Alls.{Usable, Whole, AllFit, inAt, insOf};
+ghost use Rattle.lock.specs.Asks.{wishOf, isWrong, raised, toppedBy, faultBy, seen, seenIn, noAsks, walk, heightBy, timeBy, decideKinds, decideAsks, lockedBy};
+
+// What an input asks for by one of its fields.
+pub enum Wish {
+    Nothing,
+    Wrong,
+    Number(u32),
+}
+
+// The greatest number asked for and the input that asks for it, and the input that asks first.
+pub struct Most {
+    pub first: u64,
+    pub number: u32,
+    pub input: u64,
+}
+
+// What inputs ask for by one kind of lock.
+pub enum Kind {
+    Unasked,
+    Asked(Most),
+}
+
+// The first input with a field of a wrong length.
+pub enum Fault {
+    Nowhere,
+    Input(u64),
+}
+
+// What inputs ask for.
+pub struct Asks {
+    pub fault: Fault,
+    pub height: Kind,
+    pub time: Kind,
+}
+
+// The lock time, or the refusal.
+pub enum LockTime {
+    Refused(PsbtError),
+    Is(u32),
+}
+
+// A lock number below this is a block height, any other a time.
+const THRESHOLD: u32 = 500_000_000;
+
+// What a map asks for by the field of a type.
+fn wish_at(file: &[u8], pairs: &[u32], m: MapEntry, key_type: u8) -> Wish
+    requires { ⌜ Usable (now file) (now pairs) m ⌝ }
+    ensures { λ r. ⌜ r ≡ wishOf (sizedTo 4 (field «key_type» (map (shown (now (file .entry))) (entriesOf (now (pairs .entry)) m)))) ⌝ }
+{
+    match all_maps::sized_field(file, pairs, m, key_type, 4) {
+        SizedAt::Missing => Wish::Nothing,
+        SizedAt::Misfit => Wish::Wrong,
+        SizedAt::At { start } => Wish::Number(wire::u32_from_le_bytes(&file[start..])),
+    }
+}
+
+fn is_wrong(wish: Wish) -> bool
+    ensures { λ r. ⌜ r ≡ isWrong wish ⌝ }
+{
+    match wish {
+        Wish::Nothing => false,
+        Wish::Wrong => true,
+        Wish::Number(_) => false,
+    }
+}
+
+// One more number that an input asks for: of equal ones the first stays.
+fn raise(kind: Kind, number: u32, input: u64) -> Kind
+    ensures { λ r. ⌜ r ≡ raised kind number input ⌝ }
+{
+    match kind {
+        Kind::Unasked => Kind::Asked(Most {
+            first: input,
+            number,
+            input,
+        }),
+        Kind::Asked(most) => {
+            if most.number < number {
+                Kind::Asked(Most {
+                    first: most.first,
+                    number,
+                    input,
+                })
+            } else {
+                Kind::Asked(most)
+            }
+        }
+    }
+}
+
+fn ask_more(kind: Kind, wish: Wish, input: u64) -> Kind
+    ensures { λ r. ⌜ r ≡ toppedBy kind wish input ⌝ }
+{
+    match wish {
+        Wish::Nothing => kind,
+        Wish::Wrong => kind,
+        Wish::Number(number) => raise(kind, number, input),
+    }
+}
+
+// The first fault stays.
+fn fault_at(fault: Fault, height: Wish, time: Wish, input: u64) -> Fault
+    ensures { λ r. ⌜ r ≡ faultBy fault height time input ⌝ }
+{
+    match fault {
+        Fault::Input(i) => Fault::Input(i),
+        Fault::Nowhere => {
+            if is_wrong(height) {
+                Fault::Input(input)
+            } else if is_wrong(time) {
+                Fault::Input(input)
+            } else {
+                Fault::Nowhere
+            }
+        }
+    }
+}
+
+// What inputs ask for, with one input more that asks for a height and a time.
+fn see(asks: Asks, input: u64, height: Wish, time: Wish) -> Asks
+    ensures { λ r. ⌜ r ≡ seen asks input height time ⌝ }
+{
+    let fault = asks.fault;
+    let heights = asks.height;
+    let times = asks.time;
+    Asks {
+        fault: fault_at(fault, height, time, input),
+        height: ask_more(heights, height, input),
+        time: ask_more(times, time, input),
+    }
+}
+
+// The same, with input number `i`.
+fn see_input(file: &[u8], pairs: &[u32], maps: &[u32], i: u64, asks: Asks) -> Asks
+    requires { ⌜ Whole (now file) (now pairs) (now maps) (1 + i) ⌝ }
+    ensures { λ r. ⌜ r ≡ seenIn asks i (inAt (now (file .entry)) (now (pairs .entry)) (now (maps .entry)) i) ⌝ }
+{
+    let m = entries::map_entry(maps, (1 + i) as usize);
+    let height = wish_at(file, pairs, m, PSBT_IN_REQUIRED_HEIGHT_LOCKTIME);
+    let time = wish_at(file, pairs, m, PSBT_IN_REQUIRED_TIME_LOCKTIME);
+    see(asks, i, height, time)
+}
+
+// What all inputs ask for.
+fn all_asks(file: &[u8], pairs: &[u32], maps: &[u32], psbt: Psbt) -> Asks
+    requires { ⌜ AllFit (now file) (now pairs) (now maps) psbt ⌝ }
+    ensures { λ r. ⌜ r ≡ walk noAsks 0 (insOf (now (file .entry)) (now (pairs .entry)) (now (maps .entry)) psbt) ⌝ }
+{
+    let mut asks = Asks {
+        fault: Fault::Nowhere,
+        height: Kind::Unasked,
+        time: Kind::Unasked,
+    };
+    let mut i: u64 = 0;
+    while i < psbt.inputs {
+        asks = see_input(file, pairs, maps, i, asks);
+        i = i + 1;
+    }
+    asks
+}
+
+fn or_zero(m: Maybe) -> u32
+    ensures { λ r. ⌜ r ≡ orZero m ⌝ }
+{
+    match m {
+        Maybe::Absent => 0,
+        Maybe::Present(n) => n,
+    }
+}
+
+// A greatest height must be a height, a greatest time a time.
+fn height_lock(number: u32, input: u64) -> Lock
+    ensures { λ r. ⌜ r ≡ heightBy number input ⌝ }
+{
+    if number < THRESHOLD {
+        Lock::Height { number, input }
+    } else {
+        Lock::HeightTooGreat { number, input }
+    }
+}
+
+fn time_lock(number: u32, input: u64) -> Lock
+    ensures { λ r. ⌜ r ≡ timeBy number input ⌝ }
+{
+    if THRESHOLD <= number {
+        Lock::Time { number, input }
+    } else {
+        Lock::TimeTooSmall { number, input }
+    }
+}
+
+// Not both kinds; the greatest; the fallback only where nothing is asked for.
+fn decide_kinds(fallback: u32, height: Kind, time: Kind) -> Lock
+    ensures { λ r. ⌜ r ≡ decideKinds fallback height time ⌝ }
+{
+    match height {
+        Kind::Unasked => match time {
+            Kind::Unasked => Lock::Fallback { number: fallback },
+            Kind::Asked(t) => time_lock(t.number, t.input),
+        },
+        Kind::Asked(h) => match time {
+            Kind::Unasked => height_lock(h.number, h.input),
+            Kind::Asked(t) => Lock::BothKinds {
+                height_input: h.first,
+                time_input: t.first,
+            },
+        },
+    }
+}
+
+// The lock rule, over what the inputs ask for.
+fn decide(fallback: Maybe, asks: Asks) -> Lock
+    ensures { λ r. ⌜ r ≡ decideAsks fallback asks ⌝ }
+{
+    let fault = asks.fault;
+    let height = asks.height;
+    let time = asks.time;
+    match fault {
+        Fault::Nowhere => decide_kinds(or_zero(fallback), height, time),
+        Fault::Input(input) => Lock::Malformed { input },
+    }
+}
+
+// What decides the lock: a map that is unfit refuses first.
+pub fn lock_decided(file: &[u8], pairs: &[u32], maps: &[u32], psbt: Psbt) -> Lock
+    ensures { λ r. ⌜ toldLock r ≡ toldLock (lockDecided (view (now (file .entry)) (now (pairs .entry)) (now (maps .entry)) psbt) psbt) ⌝ }
+{
+    match all_maps::all_fit(file, pairs, maps, psbt) {
+        Ruled::Refused(e) => Lock::Refused(e),
+        Ruled::Passed => {
+            let fallback = psbt.fallback_locktime;
+            decide(fallback, all_asks(file, pairs, maps, psbt))
+        }
+    }
+}
+
+// The lock time that was decided.
+pub fn lock_of(lock: Lock) -> LockTime
+    ensures { λ r. ⌜ lockedBy r ≡ lockOf lock ⌝ }
+{
+    match lock {
+        Lock::Refused(e) => LockTime::Refused(e),
+        Lock::Height { number, input: _ } => LockTime::Is(number),
+        Lock::Time { number, input: _ } => LockTime::Is(number),
+        Lock::Fallback { number } => LockTime::Is(number),
+        Lock::BothKinds {
+            height_input: _,
+            time_input: _,
+        } => LockTime::Refused(PsbtError::BadValue),
+        Lock::HeightTooGreat {
+            number: _,
+            input: _,
+        } => LockTime::Refused(PsbtError::BadValue),
+        Lock::TimeTooSmall {
+            number: _,
+            input: _,
+        } => LockTime::Refused(PsbtError::BadValue),
+        Lock::Malformed { input: _ } => LockTime::Refused(PsbtError::BadValue),
+    }
+}

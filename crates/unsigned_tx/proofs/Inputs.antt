@@ -1,0 +1,209 @@
+-- Laws of judging and writing inputs, one for each way through the functions.
+use mathlib.Core.Path.{_≡_, refl, sym, _∙_, ap, ap₂}
+use mathlib.Core.Bool.{Bool, true, false, _&&_}
+use mathlib.Core.List.{List, [], _∷_, map}
+use Prim.Native.Nat.{ℕ, suc, _+_, _-_, _*_, _^_, _≤_, _<_}
+use native.Mathlib.Omega.{arith}
+use lib.ListN.{length, take, drop, length-take}
+use mir.Syntax.{w64}
+use mir.Val.{Fits}
+use Rattle.format.specs.Tests.{every}
+use Rattle.format.specs.Numbers.{bytesOf}
+use Rattle.format.specs.Content.{field}
+use Rattle.format.specs.Entries.{shown}
+use Rattle.format.specs.Lookups.{part}
+use Rattle.format.specs.Locks.{Sized, missing, misfit, is, sizedTo, In, inOf}
+use Rattle.format.specs.Transaction.{orFinal}
+use Rattle.format.specs.declared.MapEntry.{MapEntry}
+use Rattle.format.specs.declared.Psbt.{Psbt}
+use Rattle.format.specs.declared.Looked.{Looked}
+use Rattle.format.specs.declared.Looked.the-variants as K
+use Rattle.entries.specs.Words.{mapCount, mapAt}
+use Rattle.entries.proofs.Tables.{map-count}
+use Rattle.lookup.specs.Fits.{entriesOf}
+use Rattle.all_maps.specs.Alls.{Usable, AllFit, pairsOf, inAt, from, insOf}
+use Rattle.all_maps.specs.Places.{sizedIn}
+use Rattle.all_maps.specs.declared.SizedAt.{SizedAt}
+use Rattle.all_maps.specs.declared.SizedAt.the-variants as S
+use Rattle.all_maps.proofs.Runs.{from-none, from-one}
+use Rattle.all_maps.proofs.Gathers.{input-listed, input-usable}
+use Rattle.writer.specs.Writes.{wrote}
+use Rattle.writer.proofs.Writes.{wrote-none, length-wrote}
+use Rattle.unsigned_tx.specs.Walks.{bytesIn, isThere, inputOk, inputLength, Put, put, putInput, putInputs}
+use Rattle.unsigned_tx.specs.Places.{inIn, thereAt, allowedAt, InputRoom, InputsRoom}
+
+-- a field that is there, by the case that it is
+module _ (x y : SizedAt) (e : x ≡ y) (b : Bool) where
+  pub there-by : b ≡ thereAt y → b ≡ thereAt x
+  there-by h = h ∙ sym (ap thereAt e)
+
+  pub allowed-by : b ≡ allowedAt y → b ≡ allowedAt x
+  allowed-by h = h ∙ sym (ap allowedAt e)
+
+there-in : (w : ℕ) (f : List ℕ) (x : SizedAt) → isThere (sizedIn w f x) ≡ thereAt x
+unfolding isThere sizedIn thereAt
+there-in w f S.Missing = refl
+there-in w f S.Misfit = refl
+there-in w f (S.At s) = refl
+
+allowed-in : (w : ℕ) (f : List ℕ) (x : SizedAt) → isThere (orFinal (sizedIn w f x)) ≡ allowedAt x
+unfolding isThere sizedIn allowedAt orFinal
+allowed-in w f S.Missing = refl
+allowed-in w f S.Misfit = refl
+allowed-in w f (S.At s) = refl
+
+-- an input that a map shows, by its three fields
+module _ (f P : List ℕ) (m : MapEntry) (x : SizedAt) (ex : sizedIn 32 f x ≡ sizedTo 32 (field 0x0e (map (shown f) (entriesOf P m)))) (a : Bool) (ea : a ≡ thereAt x) where
+  txid-there : isThere ((inIn f P m) .txid) ≡ a
+  unfolding inIn inOf
+  txid-there = ap isThere (sym ex) ∙ there-in 32 f x ∙ sym ea
+
+  pub ok-no-txid : a ≡ false → false ≡ inputOk (inIn f P m)
+  unfolding inputOk
+  ok-no-txid h = rw (txid-there ∙ h)
+
+  module _ (h : a ≡ true) (y : SizedAt) (ey : sizedIn 4 f y ≡ sizedTo 4 (field 0x0f (map (shown f) (entriesOf P m)))) (b : Bool) (eb : b ≡ thereAt y) where
+    index-there : isThere ((inIn f P m) .index) ≡ b
+    unfolding inIn inOf
+    index-there = ap isThere (sym ey) ∙ there-in 4 f y ∙ sym eb
+
+    pub ok-no-index : b ≡ false → false ≡ inputOk (inIn f P m)
+    unfolding inputOk
+    ok-no-index k = rw (txid-there ∙ h, index-there ∙ k)
+
+    pub ok-sequence : b ≡ true → (z : SizedAt) → sizedIn 4 f z ≡ sizedTo 4 (field 0x10 (map (shown f) (entriesOf P m))) → (r : Bool) → r ≡ allowedAt z → r ≡ inputOk (inIn f P m)
+    unfolding inputOk inIn inOf
+    ok-sequence k z ez r er = er ∙ sym (allowed-in 4 f z) ∙ ap (λ (v : Sized). isThere (orFinal v)) ez ∙ sym (rw (txid-there ∙ h, index-there ∙ k))
+
+pub ruleset oks = (ok-no-txid, ok-no-index, ok-sequence)
+
+-- the input of its map's entry
+in-at : (f P M : List ℕ) (i : ℕ) (m : MapEntry) → m ≡ mapAt M (1 + i) → inAt f P M i ≡ inIn f P m
+unfolding inAt inIn pairsOf
+in-at f P M i m e = ap (λ (x : MapEntry). inOf (map (shown f) (entriesOf P x))) (sym e)
+
+-- the inputs from number i on: none, or one and the rest
+module _ {A : Type 0} (g : ℕ → A) (i n : ℕ) where
+  pub rest-none : n ≤ i → from g i (n - i) ≡ []
+  rest-none h = from-none g i (n - i) (omega arith)
+
+  pub rest-one : i < n → from g i (n - i) ≡ g i ∷ from g (i + 1) (n - (i + 1))
+  rest-one h = let q : n - i - 1 ≡ n - (i + 1) = omega arith in from-one g i (n - i) (omega arith) ∙ rw q
+
+pub rest-all : {A : Type 0} (g : ℕ → A) (n : ℕ) → from g 0 (n - 0) ≡ from g 0 n
+rest-all g n = let q : n - 0 ≡ n = omega arith in rw q
+
+-- where all maps are fit, the map of an input is in its table
+module _ (f P M : List ℕ) (s : Psbt) (i : ℕ) (k : AllFit f P M s) (h : i < s .inputs) where
+  pub input-number : length M < 2 ^ 64 → Fits w64 (1 + i)
+  input-number g = record { fits = omega (arith, input-listed f P M s k i h, map-count M) }
+
+-- judging inputs from number i on gives what judging all gives
+pub record Judging (f P M : List ℕ) (s : Psbt) (i : ℕ) : Type 0 where
+  pub is : every inputOk (from (inAt f P M) i (s .inputs - i)) ≡ every inputOk (insOf f P M s)
+
+pub judge-first : (f P M : List ℕ) (s : Psbt) → Judging f P M s 0
+unfolding insOf
+judge-first f P M s = record { is = ap (every inputOk) (rest-all (inAt f P M) (s .inputs)) }
+
+module _ (f P M : List ℕ) (s : Psbt) (i : ℕ) (k : Judging f P M s i) where
+  pub judge-done : s .inputs ≤ i → true ≡ every inputOk (insOf f P M s)
+  unfolding every
+  judge-done h = sym (ap (every inputOk) (rest-none (inAt f P M) i (s .inputs) h)) ∙ k .is
+
+  module _ (h : i < s .inputs) (m : MapEntry) (e : m ≡ mapAt M (1 + i)) (r : Bool) (q : r ≡ inputOk (inIn f P m)) where
+    step : every inputOk (insOf f P M s) ≡ (r && every inputOk (from (inAt f P M) (i + 1) (s .inputs - (i + 1))))
+    unfolding every
+    step = sym (k .is) ∙ ap (every inputOk) (rest-one (inAt f P M) i (s .inputs) h) ∙ rw (in-at f P M i m e, q)
+
+    pub judge-stop : r ≡ false → false ≡ every inputOk (insOf f P M s)
+    judge-stop t = sym (step ∙ rw t)
+
+    pub judge-more : r ≡ true → Judging f P M s (i + 1)
+    judge-more t = record { is = sym (step ∙ rw t) }
+
+pub ruleset judges = (judge-first, judge-done, judge-stop, judge-more, input-listed, input-usable, input-number)
+
+-- a field written
+module _ (f : List ℕ) (x : SizedAt) (w at : ℕ) (B : List ℕ) where
+  pub field-missing : x ≡ S.Missing → B ≡ wrote B at (bytesIn (sizedIn w f x))
+  unfolding bytesIn sizedIn
+  field-missing h = sym (ap (λ (y : SizedAt). wrote B at (bytesIn (sizedIn w f y))) h ∙ wrote-none B at)
+
+  pub field-misfit : x ≡ S.Misfit → B ≡ wrote B at (bytesIn (sizedIn w f x))
+  unfolding bytesIn sizedIn
+  field-misfit h = sym (ap (λ (y : SizedAt). wrote B at (bytesIn (sizedIn w f y))) h ∙ wrote-none B at)
+
+  module _ (s : ℕ) (v : List ℕ) (e : v ≡ part f (K.At s w)) where
+    pub field-room : at + w ≤ length B → at + length v ≤ length B
+    unfolding part
+    field-room h = omega (arith, ap length e ∙ length-take w (drop s f))
+
+    pub field-there : x ≡ S.At s → (B₁ : List ℕ) → B₁ ≡ wrote B at v → B₁ ≡ wrote B at (bytesIn (sizedIn w f x))
+    unfolding part bytesIn sizedIn
+    field-there h B₁ q = q ∙ ap (wrote B at) e ∙ sym (ap (λ (y : SizedAt). wrote B at (bytesIn (sizedIn w f y))) h)
+
+pub ruleset fields-put = (field-missing, field-misfit, field-room, field-there)
+
+-- a sequence written
+module _ (f : List ℕ) (x : SizedAt) (at : ℕ) (B B₁ : List ℕ) where
+  pub sequence-missing : x ≡ S.Missing → B₁ ≡ wrote B at (bytesOf 4 0xffff_ffff) → B₁ ≡ wrote B at (bytesIn (orFinal (sizedIn 4 f x)))
+  unfolding bytesIn orFinal sizedIn bytesOf
+  sequence-missing h q = q ∙ sym (ap (λ (y : SizedAt). wrote B at (bytesIn (orFinal (sizedIn 4 f y)))) h)
+
+  pub sequence-there : (s : ℕ) → x ≡ S.At s → B₁ ≡ wrote B at (bytesIn (sizedIn 4 f x)) → B₁ ≡ wrote B at (bytesIn (orFinal (sizedIn 4 f x)))
+  unfolding orFinal sizedIn
+  sequence-there s h q = q ∙ ap (λ (y : SizedAt). wrote B at (bytesIn (sizedIn 4 f y))) h ∙ sym (ap (λ (y : SizedAt). wrote B at (bytesIn (orFinal (sizedIn 4 f y)))) h)
+
+pub sequence-misfit : (f : List ℕ) (x : SizedAt) (at : ℕ) (B : List ℕ) → x ≡ S.Misfit → B ≡ wrote B at (bytesIn (orFinal (sizedIn 4 f x)))
+unfolding bytesIn orFinal sizedIn
+sequence-misfit f x at B h = sym (ap (λ (y : SizedAt). wrote B at (bytesIn (orFinal (sizedIn 4 f y)))) h ∙ wrote-none B at)
+
+pub ruleset sequences-put = (sequence-missing, sequence-there, sequence-misfit)
+
+-- an input written
+pub input-fields : (f P : List ℕ) (m : MapEntry) (x y z : SizedAt)
+    → sizedIn 32 f x ≡ sizedTo 32 (field 0x0e (map (shown f) (entriesOf P m))) → sizedIn 4 f y ≡ sizedTo 4 (field 0x0f (map (shown f) (entriesOf P m)))
+    → sizedIn 4 f z ≡ sizedTo 4 (field 0x10 (map (shown f) (entriesOf P m)))
+    → (at : ℕ) (B B₁ B₂ B₃ B₄ : List ℕ) → B₁ ≡ wrote B at (bytesIn (sizedIn 32 f x)) → B₂ ≡ wrote B₁ (at + 32) (bytesIn (sizedIn 4 f y))
+    → B₃ ≡ wrote B₂ (at + 36) (bytesOf 1 0) → B₄ ≡ wrote B₃ (at + 37) (bytesIn (orFinal (sizedIn 4 f z))) → B₄ ≡ putInput B at (inIn f P m)
+unfolding putInput inIn inOf bytesOf
+input-fields f P m x y z ex ey ez at B B₁ B₂ B₃ B₄ p q r t = t ∙ rw (r, q, p, ex, ey, ez)
+
+length-input : (B : List ℕ) (at : ℕ) (x : In) → length (putInput B at x) ≡ length B
+unfolding putInput
+length-input B at x = rw (length-wrote, length-wrote, length-wrote, length-wrote)
+
+-- writing the inputs from number i on, from here, gives what writing all gives
+pub record Putting (f P M : List ℕ) (s : Psbt) (B₀ : List ℕ) (at : ℕ) (B : List ℕ) (i to : ℕ) : Type 0 where
+  pub room : to + (s .inputs - i) * inputLength ≤ length B
+  pub long : length B ≡ length B₀
+  pub is : putInputs B to (from (inAt f P M) i (s .inputs - i)) ≡ putInputs B₀ at (insOf f P M s)
+
+pub put-first : (f P M : List ℕ) (s : Psbt) (at : ℕ) (B : List ℕ) → InputsRoom f P M s at (length B) → Putting f P M s B at B 0 at
+unfolding insOf
+put-first f P M s at B k = record { room = omega (arith, k .room); long = refl; is = ap (putInputs B at) (rest-all (inAt f P M) (s .inputs)) }
+
+module _ (f P M : List ℕ) (s : Psbt) (B₀ : List ℕ) (at : ℕ) (B : List ℕ) (i to : ℕ) (k : Putting f P M s B₀ at B i to) where
+  pub put-done : s .inputs ≤ i → put to B ≡ putInputs B₀ at (insOf f P M s)
+  unfolding putInputs
+  put-done h = sym (ap (putInputs B to) (rest-none (inAt f P M) i (s .inputs) h)) ∙ k .is
+
+  module _ (h : i < s .inputs) where
+    pub put-room : (m : MapEntry) → Usable f P m → InputRoom f P m to (length B)
+    put-room m u = record { usable = u; room = omega (arith, k .room) }
+
+    pub put-to : length B₀ < 2 ^ 64 → Fits w64 (to + 41)
+    put-to g = record { fits = omega (arith, k .room, k .long) }
+
+    pub put-more : (m : MapEntry) → m ≡ mapAt M (1 + i) → (B₁ : List ℕ) → B₁ ≡ putInput B to (inIn f P m) → Putting f P M s B₀ at B₁ (i + 1) (to + 41)
+    unfolding putInputs
+    put-more m e B₁ q =
+        record {
+          room = omega (arith, k .room, ap length q ∙ length-input B to (inIn f P m));
+          long = ap length q ∙ length-input B to (inIn f P m) ∙ k .long;
+          is = ap (λ (b : List ℕ). putInputs b (to + 41) (from (inAt f P M) (i + 1) (s .inputs - (i + 1)))) (q ∙ ap (putInput B to) (sym (in-at f P M i m e)))
+              ∙ sym (ap (putInputs B to) (rest-one (inAt f P M) i (s .inputs) h)) ∙ k .is;
+        }
+
+pub ruleset puttings = (put-first, put-done, put-room, put-to, put-more, input-listed, input-usable, input-number)

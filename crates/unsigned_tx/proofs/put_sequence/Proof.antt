@@ -1,0 +1,25 @@
+-- `unsigned_tx::put_sequence` meets its contract.
+use borrow.Author.Needs.{needs}
+use Rattle.unsigned_tx.proofs.Inputs.{sequences-put}
+use Rattle.unsigned_tx.proofs.put_sequence.Statement.{statement}
+use Rattle.unsigned_tx.proofs.put_sequence.Tie as tie
+use Rattle.unsigned_tx.proofs.put_sequence.Reads as reads
+use Rattle.unsigned_tx.proofs.put_sequence.Lts as lts
+use Rattle.unsigned_tx.proofs.put_at.Reads as put-at-reads
+use Rattle.writer.proofs.put_le.Reads as put-le-reads
+
+-- needs: needs, sequences-put
+pub put-sequence-spec : {M : Type 1} → statement M
+put-sequence-spec =
+    tie.close
+    (tie.spec
+    (λ c. search (needs, sequences-put))
+    (λ c κs. search (needs, sequences-put))
+    (λ c. search (needs, sequences-put))
+    (λ c. search (needs, sequences-put))
+    (λ c κs. search (needs, sequences-put))
+    (λ c. search (needs, sequences-put))
+    (λ c. search (needs, sequences-put))
+    (λ c. search (needs, sequences-put))
+    (λ c. search (needs, sequences-put))
+    (λ c. search (needs, sequences-put)))
