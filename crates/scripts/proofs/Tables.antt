@@ -1,21 +1,17 @@
 -- Laws of the script table's entries, one for each way through the functions that judge them.
 use mathlib.Core.Path.{_≡_, refl, sym, _∙_, ap}
-use mathlib.Core.Bool.{Bool, true, false, _&&_}
+use mathlib.Core.Bool.{Bool, true, false}
 use mathlib.Core.List.{List, [], _∷_}
-use Prim.Native.Nat.{ℕ, _+_, _-_, _*_, _/_, _^_, _<_, _≤_}
+use Prim.Native.Nat.{ℕ, _+_, _-_, _*_, _/_, _<_, _≤_}
 use native.Mathlib.Nat.{add-sub-cancel-left}
 use native.Mathlib.Omega.{arith}
-use borrow.Author.Tests.{eq-eqb, ne-eqb, le-ltb, eqb-true, eqb-false}
+use borrow.Author.Tests.{eq-eqb, ne-eqb, eqb-true, eqb-false}
 use lib.Dec.{eqb}
 use lib.ListN.{length, getD, take, drop, replicate, length-drop, drop-of-length-le}
 use lib.Seq.{take-all, take-nil}
-use mir.Syntax.{w64}
-use mir.Val.{Fits}
-use Rattle.format.specs.Tests.{pick}
 use Rattle.format.specs.Keys.{order, isSame, same}
 use Rattle.format.specs.Scripts.{scriptEntry, taproot}
 use Rattle.format.specs.declared.Order.{Order}
-use Rattle.format.specs.declared.Order.the-variants.{Below, Same, Above}
 use Rattle.format.proofs.Tests.{no-by}
 use Rattle.format.proofs.Keys.{same-is, same-self}
 use Rattle.scripts.specs.Tables.{entryAt, blank, filled, fitsBy}

@@ -1,10 +1,10 @@
 -- Laws of judging and writing inputs, one for each way through the functions.
-use mathlib.Core.Path.{_≡_, refl, sym, _∙_, ap, ap₂}
+use mathlib.Core.Path.{_≡_, refl, sym, _∙_, ap}
 use mathlib.Core.Bool.{Bool, true, false, _&&_}
 use mathlib.Core.List.{List, [], _∷_, map}
-use Prim.Native.Nat.{ℕ, suc, _+_, _-_, _*_, _^_, _≤_, _<_}
+use Prim.Native.Nat.{ℕ, _+_, _-_, _*_, _^_, _≤_, _<_}
 use native.Mathlib.Omega.{arith}
-use lib.ListN.{length, take, drop, length-take}
+use lib.ListN.{length, drop, length-take}
 use mir.Syntax.{w64}
 use mir.Val.{Fits}
 use Rattle.format.specs.Tests.{every}
@@ -12,13 +12,12 @@ use Rattle.format.specs.Numbers.{bytesOf}
 use Rattle.format.specs.Content.{field}
 use Rattle.format.specs.Entries.{shown}
 use Rattle.format.specs.Lookups.{part}
-use Rattle.format.specs.Locks.{Sized, missing, misfit, is, sizedTo, In, inOf}
+use Rattle.format.specs.Locks.{Sized, is, sizedTo, In, inOf}
 use Rattle.format.specs.Transaction.{orFinal}
 use Rattle.format.specs.declared.MapEntry.{MapEntry}
 use Rattle.format.specs.declared.Psbt.{Psbt}
-use Rattle.format.specs.declared.Looked.{Looked}
 use Rattle.format.specs.declared.Looked.the-variants as K
-use Rattle.entries.specs.Words.{mapCount, mapAt}
+use Rattle.entries.specs.Words.{mapAt}
 use Rattle.entries.proofs.Tables.{map-count}
 use Rattle.lookup.specs.Fits.{entriesOf}
 use Rattle.all_maps.specs.Alls.{Usable, AllFit, pairsOf, inAt, from, insOf}
@@ -29,7 +28,7 @@ use Rattle.all_maps.proofs.Runs.{from-none, from-one}
 use Rattle.all_maps.proofs.Gathers.{input-listed, input-usable}
 use Rattle.writer.specs.Writes.{wrote}
 use Rattle.writer.proofs.Writes.{wrote-none, length-wrote}
-use Rattle.unsigned_tx.specs.Walks.{bytesIn, isThere, inputOk, inputLength, Put, put, putInput, putInputs}
+use Rattle.unsigned_tx.specs.Walks.{bytesIn, isThere, inputOk, inputLength, put, putInput, putInputs}
 use Rattle.unsigned_tx.specs.Places.{inIn, thereAt, allowedAt, InputRoom, InputsRoom}
 
 -- a field that is there, by the case that it is
@@ -40,7 +39,7 @@ module _ (x y : SizedAt) (e : x ≡ y) (b : Bool) where
   pub allowed-by : b ≡ allowedAt y → b ≡ allowedAt x
   allowed-by h = h ∙ sym (ap allowedAt e)
 
-there-in : (w : ℕ) (f : List ℕ) (x : SizedAt) → isThere (sizedIn w f x) ≡ thereAt x
+pub there-in : (w : ℕ) (f : List ℕ) (x : SizedAt) → isThere (sizedIn w f x) ≡ thereAt x
 unfolding isThere sizedIn thereAt
 there-in w f S.Missing = refl
 there-in w f S.Misfit = refl
@@ -170,7 +169,7 @@ pub input-fields : (f P : List ℕ) (m : MapEntry) (x y z : SizedAt)
 unfolding putInput inIn inOf bytesOf
 input-fields f P m x y z ex ey ez at B B₁ B₂ B₃ B₄ p q r t = t ∙ rw (r, q, p, ex, ey, ez)
 
-length-input : (B : List ℕ) (at : ℕ) (x : In) → length (putInput B at x) ≡ length B
+pub length-input : (B : List ℕ) (at : ℕ) (x : In) → length (putInput B at x) ≡ length B
 unfolding putInput
 length-input B at x = rw (length-wrote, length-wrote, length-wrote, length-wrote)
 

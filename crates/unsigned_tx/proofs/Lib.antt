@@ -1,2 +1,4 @@
 pub mod Walks
 pub mod Inputs
+pub mod Outputs
+pub mod Finals

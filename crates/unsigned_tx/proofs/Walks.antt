@@ -2,17 +2,17 @@
 use mathlib.Core.Path.{_≡_, refl, sym, _∙_, ap, ap₂}
 use mathlib.Core.Bool.{Bool, true, false, _&&_}
 use mathlib.Core.List.{List, [], _∷_, _++_, append-assoc}
-use Prim.Native.Nat.{ℕ, zero, suc, _+_, _*_, _≤_, _<_}
+use Prim.Native.Nat.{ℕ, suc, _+_, _*_, _≤_, _<_}
 use native.Mathlib.Omega.{arith}
-use borrow.Author.Tests.{le-leb, lt-leb, leb-true, leb-false, eqb-true}
+use borrow.Author.Tests.{le-leb, leb-true, leb-false, eqb-true}
 use lib.Dec.{leb, eqb}
 use lib.ListN.{length, take, drop, length-append}
-use Rattle.format.specs.Tests.{pick, every}
+use Rattle.format.specs.Tests.{every}
 use Rattle.format.specs.Numbers.{bytesOf, unsigned}
 use Rattle.format.specs.Compact.{shortest}
-use Rattle.format.specs.Content.{Pair, Found, absent, found, field}
-use Rattle.format.specs.Locks.{Sized, missing, misfit, is, In, sizedTo, inOf}
-use Rattle.format.specs.Scripts.{Out, outOf, scriptEntry}
+use Rattle.format.specs.Content.{Found, absent, found, field}
+use Rattle.format.specs.Locks.{Sized, missing, misfit, is, In, sizedTo}
+use Rattle.format.specs.Scripts.{Out, scriptEntry}
 use Rattle.format.specs.Transaction.{Tx, refuses, writes, ahead, needs, needsScript, orFinal, scriptOf, inputThen, inputsThen, outputThen, outputsThen, txWith}
 use Rattle.format.specs.declared.PsbtError.{PsbtError}
 use Rattle.format.specs.declared.PsbtError.the-variants.{BadValue, MissingOutputScript}
@@ -21,7 +21,7 @@ use Rattle.format.proofs.Numbers.{All, length-bytesOf}
 use Rattle.format.proofs.Tests.{pick-by, never-true, and-left, and-right}
 use Rattle.writer.specs.Writes.{wrote, sizeLength}
 use Rattle.writer.proofs.Writes.{wrote-append, wrote-then, wrote-none}
-use Rattle.unsigned_tx.specs.Walks.{bytesIn, isThere, inputOk, inputBytes, inputsBytes, inputLength, scripted, allScripted, scriptBytes, outBytes, outsBytes, outLength, outsLength, greatest, capped, measureBy, outMeasure, moreBy, outsMeasure, fixedLength, Put, put, putInput, putInputs, putOutput, putOutputs, putLock, putRest, putTx, txBytes}
+use Rattle.unsigned_tx.specs.Walks.{bytesIn, isThere, inputOk, inputBytes, inputsBytes, inputLength, scripted, allScripted, scriptBytes, outBytes, outsBytes, outLength, outsLength, greatest, capped, measureBy, outMeasure, moreBy, outsMeasure, fixedLength, put, putInput, putInputs, putOutput, putOutputs, putLock, putRest, putFront, putTx, txBytes}
 use Rattle.unsigned_tx.specs.declared.Measure.{Measure}
 use Rattle.unsigned_tx.specs.declared.Measure.the-variants.{Refused, Takes}
 
@@ -111,7 +111,7 @@ module _ (t : Tx) where
   out-refused missing f e h = let x : BadValue ≡ e = cc in ap refuses x
   out-refused misfit f e h = let x : BadValue ≡ e = cc in ap refuses x
   out-refused (is v) absent e h = let x : MissingOutputScript ≡ e = cc in ap refuses x
-  out-refused (is v) (found s) e h = takes-not e (outLength s) (sym h)
+  out-refused (is v) (found s) e h = takes-not e (outLength (length s)) (sym h)
 
 -- by the first output's measure
 more-takes : {R : Type 0} (f : ℕ → Measure) (n k : ℕ) (o : Measure) → moreBy f n o ≡ Takes k → ((w : ℕ) → o ≡ Takes w → f (capped (n + w)) ≡ Takes k → R) → R
@@ -174,6 +174,10 @@ pub capped-most : (n : ℕ) → capped n ≤ greatest
 unfolding capped
 capped-most n = pick-by (λ (k : ℕ). k ≤ greatest) (leb n greatest) _ _ (λ q. leb-true n greatest q) (λ q. omega arith)
 
+pub capped-least : (n : ℕ) → capped n ≤ n
+unfolding capped
+capped-least n = pick-by (λ (k : ℕ). k ≤ n) (leb n greatest) _ _ (λ q. omega arith) (λ q. omega (arith, leb-false n greatest q))
+
 pub capped-is : (n : ℕ) → n ≤ greatest → capped n ≡ n
 unfolding capped
 capped-is n h = rw (le-leb n greatest h)
@@ -201,12 +205,12 @@ module _ (n L : ℕ) (l : L < greatest) where
       by false q = absurd (omega (arith, capped-past n (omega (arith, leb-false n greatest q))))
 
 -- how long the outputs are
-measure-is : (a : Sized) (f : Found) (w : ℕ) → measureBy a f ≡ Takes w → (w ≡ outLength (scriptBytes f)) × (isThere a ≡ true)
+measure-is : (a : Sized) (f : Found) (w : ℕ) → measureBy a f ≡ Takes w → (w ≡ outLength (length (scriptBytes f))) × (isThere a ≡ true)
 unfolding measureBy scriptBytes isThere
 measure-is missing f w h = takes-not BadValue w h
 measure-is misfit f w h = takes-not BadValue w h
 measure-is (is v) absent w h = takes-not MissingOutputScript w h
-measure-is (is v) (found s) w h = let x : outLength s ≡ w = cc in (sym x, refl)
+measure-is (is v) (found s) w h = let x : outLength (length s) ≡ w = cc in (sym x, refl)
 
 pub outs-length : (os : List Out) (n k : ℕ) → n ≤ greatest → outsMeasure os n ≡ Takes k → k ≡ capped (n + outsLength os)
 unfolding outsMeasure outMeasure outsLength
@@ -214,8 +218,8 @@ outs-length [] n k l h = let x : n ≡ k = cc in let y : n + 0 ≡ n = omega ari
 outs-length (o ∷ os) n k l h =
     more-takes (outsMeasure os) n k (measureBy (o .amount) (o .script)) h
     (λ w q r.
-    let p : w ≡ outLength (scriptBytes (o .script)) = measure-is (o .amount) (o .script) w q .0 in
-    let z : n + w + outsLength os ≡ n + (outLength (scriptBytes (o .script)) + outsLength os) = omega arith in
+    let p : w ≡ outLength (length (scriptBytes (o .script))) = measure-is (o .amount) (o .script) w q .0 in
+    let z : n + w + outsLength os ≡ n + (outLength (length (scriptBytes (o .script))) + outsLength os) = omega arith in
     outs-length os (capped (n + w)) k (capped-most (n + w)) r ∙ capped-more (n + w) (outsLength os) ∙ ap capped z)
 
 -- fields have their lengths
@@ -303,7 +307,7 @@ module _ (a : Sized) (k : SizedTo 8 a) (h : isThere a ≡ true) (s : List ℕ) w
   amount-long : length (bytesIn a) ≡ 8
   amount-long = there-long 8 a k h
 
-  out-long : length (outBytes a s) ≡ outLength s
+  out-long : length (outBytes a s) ≡ outLength (length s)
   unfolding outBytes outLength sizeLength
   out-long = rw (length-append, length-append) (omega (arith, amount-long))
 
@@ -335,9 +339,9 @@ put-outputs (o ∷ os) n k a h B at =
     let t : isThere (o .amount) ≡ true = measure-is (o .amount) (o .script) w q .1 in
     let j = out-long (o .amount) (a .0 .amount=) t (scriptBytes (o .script)) in
     rw (put-output (o .amount) (a .0 .amount=) t (scriptBytes (o .script)) B at)
-    (put-outputs os (capped (n + w)) k (a .1) r (wrote B at (outBytes (o .amount) (scriptBytes (o .script)))) (at + outLength (scriptBytes (o .script)))
+    (put-outputs os (capped (n + w)) k (a .1) r (wrote B at (outBytes (o .amount) (scriptBytes (o .script)))) (at + outLength (length (scriptBytes (o .script))))
     ∙ ap₂ put (rw length-append (omega (arith, j)))
-    (wrote-then B _ _ at (at + outLength (scriptBytes (o .script))) (outBytes (o .amount) (scriptBytes (o .script))) (outsBytes os) refl (omega (arith, j)) refl)))
+    (wrote-then B _ _ at (at + outLength (length (scriptBytes (o .script)))) (outBytes (o .amount) (scriptBytes (o .script))) (outsBytes os) refl (omega (arith, j)) refl)))
 
 -- the whole transaction has the length that was measured, and is written as its bytes are
 module _ (s : Psbt) (ins : List In) (outs : List Out) (n m k : ℕ) (a : All SizedIn ins) (b : All SizedOut outs)
@@ -357,7 +361,7 @@ module _ (s : Psbt) (ins : List In) (outs : List Out) (n m k : ℕ) (a : All Siz
       ∙ ap (wrote B at) (append-assoc (shortest (length outs)) (outsBytes outs) (bytesOf 4 n))
 
   pub put-tx : (B : List ℕ) → putTx B s ins outs n ≡ wrote B 0 (txBytes s ins outs n)
-  unfolding putTx txBytes sizeLength
+  unfolding putTx putFront txBytes sizeLength
   put-tx B =
       let v : List ℕ = bytesOf 4 (unsigned (s .«tx_version»)) in
       let c : List ℕ = shortest (length ins) in

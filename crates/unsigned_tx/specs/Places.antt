@@ -15,6 +15,7 @@ use Rattle.format.specs.declared.MapEntry.{MapEntry}
 use Rattle.format.specs.declared.Psbt.{Psbt}
 use Rattle.format.specs.declared.State.{State}
 use Rattle.lookup.specs.Fits.{entriesOf}
+use Rattle.writer.specs.Writes.{sizeLength}
 use Rattle.scripts.specs.Tables.{entryAt}
 use Rattle.all_maps.specs.Alls.{Usable, AllFit, outAt, from}
 use Rattle.all_maps.specs.declared.SizedAt.{SizedAt}
@@ -68,13 +69,23 @@ scriptIn f e Missing = absent
 scriptIn f e (InFile s n) = found (take n (drop s f))
 scriptIn f e InTable = found (drop 1 e)
 
+-- how many bytes it has
+unfoldable pub scriptLength : List ℕ → List ℕ → ScriptAt → ℕ
+scriptLength f e x = length (scriptBytes (scriptIn f e x))
+
+-- there is one
+unfoldable pub hasScript : ScriptAt → Bool
+hasScript Missing = false
+hasScript (InFile s n) = true
+hasScript InTable = true
+
 -- how long a transaction is, or its first refusal: inputs in order, outputs in order
 unfoldable pub txMeasure : Psbt → List In → List Out → Measure
 txMeasure s ins outs = pick (every inputOk ins) (outsMeasure outs (capped (fixedLength (s .inputs) (s .outputs)))) (Refused BadValue)
 
 -- an output written from `at` on, and the place behind it
 unfoldable pub putOne : List ℕ → ℕ → Out → Put
-putOne B at o = put (at + outLength (scriptBytes (o .script))) (putOutput B at (o .amount) (scriptBytes (o .script)))
+putOne B at o = put (at + outLength (length (scriptBytes (o .script)))) (putOutput B at (o .amount) (scriptBytes (o .script)))
 
 -- what writing asks: maps that are fit, and the room
 pub record InputRoom (f P : List ℕ) (m : MapEntry) (at n : ℕ) : Type 0 where
@@ -87,11 +98,19 @@ pub record InputsRoom (f P M : List ℕ) (s : Psbt) (at n : ℕ) : Type 0 where
 
 pub record OutputRoom (f P : List ℕ) (m : MapEntry) (e : List ℕ) (at n : ℕ) : Type 0 where
   pub usable : Usable f P m
-  pub room : at + outLength (scriptBytes ((scripted (outIn f P m) e) .script)) ≤ n
+  pub room : at + outLength (length (scriptBytes ((scripted (outIn f P m) e) .script))) ≤ n
 
 pub record OutputsRoom (f P M : List ℕ) (s : Psbt) (t : State) (T : List ℕ) (at n : ℕ) : Type 0 where
   pub all-fit : AllFit f P M s
   pub room : at + outsLength (outsNow f P M s t T) ≤ n
+
+pub record FrontRoom (f P M : List ℕ) (s : Psbt) (n : ℕ) : Type 0 where
+  pub all-fit : AllFit f P M s
+  pub room : 4 + sizeLength (s .inputs) + s .inputs * inputLength ≤ n
+
+pub record RestRoom (f P M : List ℕ) (s : Psbt) (t : State) (T : List ℕ) (at n : ℕ) : Type 0 where
+  pub all-fit : AllFit f P M s
+  pub room : at + (sizeLength (s .outputs) + (outsLength (outsNow f P M s t T) + 4)) ≤ n
 
 pub record TxRoom (f P M : List ℕ) (s : Psbt) (t : State) (T : List ℕ) (n : ℕ) : Type 0 where
   pub all-fit : AllFit f P M s

@@ -11,7 +11,6 @@ use Rattle.format.specs.Content.{Found, absent, found}
 use Rattle.format.specs.Locks.{Sized, missing, misfit, is, In}
 use Rattle.format.specs.Scripts.{Out, scriptEntry}
 use Rattle.format.specs.Transaction.{scriptOf, orFinal}
-use Rattle.format.specs.declared.PsbtError.{PsbtError}
 use Rattle.format.specs.declared.PsbtError.the-variants.{BadValue, MissingOutputScript}
 use Rattle.format.specs.declared.Psbt.{Psbt}
 use Rattle.writer.specs.Writes.{wrote, sizeLength}
@@ -65,13 +64,13 @@ unfoldable pub outsBytes : List Out → List ℕ
 outsBytes [] = []
 outsBytes (o ∷ os) = outBytes (o .amount) (scriptBytes (o .script)) ++ outsBytes os
 
--- how many bytes an output with script s takes
-unfoldable pub outLength : List ℕ → ℕ
-outLength s = 8 + (sizeLength (length s) + length s)
+-- how many bytes an output with a script of n bytes takes
+unfoldable pub outLength : ℕ → ℕ
+outLength n = 8 + (sizeLength n + n)
 
 unfoldable pub outsLength : List Out → ℕ
 outsLength [] = 0
-outsLength (o ∷ os) = outLength (scriptBytes (o .script)) + outsLength os
+outsLength (o ∷ os) = outLength (length (scriptBytes (o .script))) + outsLength os
 
 -- the greatest number of 64 bits, and a number that no longer grows past it: more than any buffer has
 abbrev pub greatest : ℕ
@@ -85,7 +84,7 @@ unfoldable pub measureBy : Sized → Found → Measure
 measureBy missing s = Refused BadValue
 measureBy misfit s = Refused BadValue
 measureBy (is a) absent = Refused MissingOutputScript
-measureBy (is a) (found s) = Takes (outLength s)
+measureBy (is a) (found s) = Takes (outLength (length s))
 
 unfoldable pub outMeasure : Out → Measure
 outMeasure o = measureBy (o .amount) (o .script)
@@ -122,7 +121,7 @@ putOutput B at a s = wrote (wrote (wrote B at (bytesIn a)) (at + 8) (shortest (l
 
 unfoldable pub putOutputs : List ℕ → ℕ → List Out → Put
 putOutputs B at [] = put at B
-putOutputs B at (o ∷ os) = putOutputs (putOutput B at (o .amount) (scriptBytes (o .script))) (at + outLength (scriptBytes (o .script))) os
+putOutputs B at (o ∷ os) = putOutputs (putOutput B at (o .amount) (scriptBytes (o .script))) (at + outLength (length (scriptBytes (o .script)))) os
 
 -- the transaction written from the front on: version and inputs, then outputs, then the lock time
 unfoldable pub putLock : ℕ → Put → List ℕ
@@ -131,9 +130,11 @@ putLock n (put at B) = wrote B at (bytesOf 4 n)
 unfoldable pub putRest : List Out → ℕ → Put → List ℕ
 putRest outs n (put at B) = putLock n (putOutputs (wrote B at (shortest (length outs))) (at + sizeLength (length outs)) outs)
 
+unfoldable pub putFront : List ℕ → Psbt → List In → Put
+putFront B s ins = putInputs (wrote (wrote B 0 (bytesOf 4 (unsigned (s .«tx_version»)))) 4 (shortest (length ins))) (4 + sizeLength (length ins)) ins
+
 unfoldable pub putTx : List ℕ → Psbt → List In → List Out → ℕ → List ℕ
-putTx B s ins outs n =
-    putRest outs n (putInputs (wrote (wrote B 0 (bytesOf 4 (unsigned (s .«tx_version»)))) 4 (shortest (length ins))) (4 + sizeLength (length ins)) ins)
+putTx B s ins outs n = putRest outs n (putFront B s ins)
 
 -- its bytes
 unfoldable pub txBytes : Psbt → List In → List Out → ℕ → List ℕ

@@ -1,7 +1,7 @@
 -- The writers' loops, and the shortest spelling by the number's size.
 use mathlib.Core.Path.{_≡_, refl, sym, _∙_, ap}
-use mathlib.Core.List.{List, [], _∷_, _++_}
-use Prim.Native.Nat.{ℕ, zero, suc, _+_, _-_, _^_, _/_, _%_, _≤_, _<_}
+use mathlib.Core.List.{List, [], _∷_}
+use Prim.Native.Nat.{ℕ, suc, _+_, _-_, _^_, _/_, _%_, _≤_, _<_}
 use native.Mathlib.Nat.{add-zero}
 use native.Mathlib.Numerals.{add-one}
 use native.Mathlib.Omega.{arith}
@@ -11,10 +11,10 @@ use lib.ListN.{length, getD, drop, set, length-set, drop-of-length-le}
 use lib.Seq.{sets, drop-cons}
 use mir.Syntax.{w64}
 use mir.Val.{Fits}
-use Rattle.format.specs.Tests.{pick}
 use Rattle.format.specs.Numbers.{bytesOf}
 use Rattle.format.specs.Compact.{shortest}
 use Rattle.format.proofs.Numbers.{length-bytesOf}
+use Rattle.format.proofs.Tests.{pick-by}
 use Rattle.writer.specs.Writes.{wrote, sizeLength}
 use Rattle.writer.proofs.Writes.{wrote-long}
 
@@ -133,6 +133,14 @@ module _ (n : ℕ) where
   size-9 h k l = sym (ap length (short-9 h k l) ∙ ap suc (length-bytesOf 8 n))
 
 pub ruleset sizes = (size-1, size-3, size-5, size-9)
+
+-- no spelling takes more than nine bytes
+pub size-most : (n : ℕ) → sizeLength n ≤ 9
+unfolding sizeLength shortest
+size-most n =
+    pick-by (λ (s : List ℕ). length s ≤ 9) (ltb n 0xfd) _ _ (λ q. omega arith)
+    (λ q. pick-by (λ (s : List ℕ). length s ≤ 9) (ltb n 0x1_0000) _ _ (λ t. omega (arith, length-bytesOf 2 n))
+    (λ t. pick-by (λ (s : List ℕ). length s ≤ 9) (ltb n 0x1_0000_0000) _ _ (λ v. omega (arith, length-bytesOf 4 n)) (λ v. omega (arith, length-bytesOf 8 n))))
 
 -- and written
 module _ (B B₁ : List ℕ) (at n : ℕ) where

@@ -1,0 +1,17 @@
+-- `unsigned_tx::add_capped` meets its contract.
+use borrow.Author.Needs.{needs}
+use Rattle.unsigned_tx.proofs.Outputs.{caps}
+use Rattle.unsigned_tx.proofs.add_capped.Statement.{statement}
+use Rattle.unsigned_tx.proofs.add_capped.Tie as tie
+use Rattle.unsigned_tx.proofs.add_capped.Reads as reads
+use Rattle.unsigned_tx.proofs.add_capped.Lts as lts
+
+-- needs: needs, caps
+pub add-capped-spec : {M : Type 1} → statement M
+add-capped-spec =
+    tie.close
+    (tie.spec
+    (λ c. search (needs, caps))
+    (λ c. search (needs, caps))
+    (λ c. search (needs, caps))
+    (λ c. search (needs, caps)))

@@ -1,0 +1,21 @@
+-- `unsigned_tx::has_script` meets its contract.
+use borrow.Author.Needs.{needs}
+use Rattle.unsigned_tx.specs.Places.{hasScript}
+use Rattle.unsigned_tx.proofs.Outputs.{has-by}
+use Rattle.unsigned_tx.proofs.has_script.Statement.{statement}
+use Rattle.unsigned_tx.proofs.has_script.Tie as tie
+use Rattle.unsigned_tx.proofs.has_script.Reads as reads
+use Rattle.unsigned_tx.proofs.has_script.Lts as lts
+
+-- needs: needs, has-by | hasScript
+pub has-script-spec : {M : Type 1} → statement M
+unfolding hasScript
+has-script-spec =
+    tie.close
+    (tie.spec
+    (λ c. search (needs, has-by))
+    (λ c. search (needs, has-by))
+    (λ c. search (needs, has-by))
+    (λ c. search (needs, has-by))
+    (λ c. search (needs, has-by))
+    (λ c. search (needs, has-by)))

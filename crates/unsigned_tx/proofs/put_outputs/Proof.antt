@@ -1,0 +1,36 @@
+-- `unsigned_tx::put_outputs` meets its contract.
+use Prim.Native.Nat.{_-_}
+use borrow.Author.Needs.{needs}
+use Rattle.unsigned_tx.proofs.Outputs.{Putting, puttings, output-maps}
+use Rattle.unsigned_tx.proofs.put_outputs.Statement.{statement}
+use Rattle.unsigned_tx.proofs.put_outputs.Tie as tie
+use Rattle.unsigned_tx.proofs.put_outputs.Reads as reads
+use Rattle.unsigned_tx.proofs.put_outputs.Lts as lts
+use Rattle.entries.proofs.map_entry.Reads as map-entry-reads
+use Rattle.unsigned_tx.proofs.put_output.Reads as put-output-reads
+use Rattle.unsigned_tx.proofs.set_entry.Reads as set-entry-reads
+
+abbrev Inv-loop : tie.InvT-loop
+Inv-loop file pairs maps psbt state scripts out₀ at i₀ to₀ out i to = Putting file pairs maps psbt state scripts out₀ at out i to
+
+abbrev μ-loop : tie.MeasureT-loop
+μ-loop file pairs maps psbt state scripts out₀ at i₀ to₀ out i to = psbt .outputs - i
+
+-- needs: needs, puttings, output-maps
+pub put-outputs-spec : {M : Type 1} → statement M
+put-outputs-spec =
+    tie.close
+    (tie.spec
+    Inv-loop
+    μ-loop
+    (λ c. search (needs, puttings, output-maps))
+    (λ c. search (needs, puttings, output-maps))
+    (λ c. search (needs, puttings, output-maps))
+    (λ c κs. search (needs, puttings, output-maps))
+    (λ c κs. search (needs, puttings, output-maps))
+    (λ c κs. search (needs, puttings, output-maps))
+    (λ c. search (needs, puttings, output-maps))
+    (λ c. search (needs, puttings, output-maps))
+    (λ c. search (needs, puttings, output-maps))
+    (λ c. search (needs, puttings, output-maps))
+    (λ c. search (needs, puttings, output-maps)))

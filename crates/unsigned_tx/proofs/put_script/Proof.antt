@@ -1,0 +1,30 @@
+-- `unsigned_tx::put_script` meets its contract.
+use borrow.Author.Needs.{needs}
+use Rattle.unsigned_tx.proofs.Outputs.{script-puts}
+use Rattle.unsigned_tx.proofs.put_script.Statement.{statement}
+use Rattle.unsigned_tx.proofs.put_script.Tie as tie
+use Rattle.unsigned_tx.proofs.put_script.Reads as reads
+use Rattle.unsigned_tx.proofs.put_script.Lts as lts
+use Rattle.lookup.proofs.part_of.Reads as part-of-reads
+use Rattle.writer.proofs.put_bytes.Reads as put-bytes-reads
+
+-- needs: needs, script-puts
+pub put-script-spec : {M : Type 1} → statement M
+put-script-spec =
+    tie.close
+    (tie.spec
+    (λ c. search (needs, script-puts))
+    (λ c. search (needs, script-puts))
+    (λ c κs. search (needs, script-puts))
+    (λ c κs. search (needs, script-puts))
+    (λ c. search (needs, script-puts))
+    (λ c. search (needs, script-puts))
+    (λ c. search (needs, script-puts))
+    (λ c. search (needs, script-puts))
+    (λ c. search (needs, script-puts))
+    (λ c κs. search (needs, script-puts))
+    (λ c. search (needs, script-puts))
+    (λ c. search (needs, script-puts))
+    (λ c. search (needs, script-puts))
+    (λ c. search (needs, script-puts))
+    (λ c. search (needs, script-puts)))

@@ -1,0 +1,23 @@
+-- `unsigned_tx::script_len` meets its contract.
+use borrow.Author.Needs.{needs}
+use Rattle.unsigned_tx.proofs.Outputs.{script-lens}
+use Rattle.unsigned_tx.proofs.script_len.Statement.{statement}
+use Rattle.unsigned_tx.proofs.script_len.Tie as tie
+use Rattle.unsigned_tx.proofs.script_len.Reads as reads
+use Rattle.unsigned_tx.proofs.script_len.Lts as lts
+use Rattle.lookup.proofs.part_of.Reads as part-of-reads
+
+-- needs: needs, script-lens
+pub script-len-spec : {M : Type 1} → statement M
+script-len-spec =
+    tie.close
+    (tie.spec
+    (λ c. search (needs, script-lens))
+    (λ c. search (needs, script-lens))
+    (λ c κs. search (needs, script-lens))
+    (λ c. search (needs, script-lens))
+    (λ c. search (needs, script-lens))
+    (λ c. search (needs, script-lens))
+    (λ c. search (needs, script-lens))
+    (λ c. search (needs, script-lens))
+    (λ c. search (needs, script-lens)))

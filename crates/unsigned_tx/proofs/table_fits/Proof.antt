@@ -1,0 +1,17 @@
+-- `unsigned_tx::table_fits` meets its contract.
+use borrow.Author.Needs.{needs}
+use Rattle.unsigned_tx.proofs.Finals.{tables}
+use Rattle.unsigned_tx.proofs.table_fits.Statement.{statement}
+use Rattle.unsigned_tx.proofs.table_fits.Tie as tie
+use Rattle.unsigned_tx.proofs.table_fits.Reads as reads
+use Rattle.unsigned_tx.proofs.table_fits.Lts as lts
+use Rattle.unsigned_tx.proofs.scripts_fit.Reads as scripts-fit-reads
+
+-- needs: needs, tables
+pub table-fits-spec : {M : Type 1} → statement M
+table-fits-spec =
+    tie.close
+    (tie.spec
+    (λ c κs. search (needs, tables))
+    (λ c. search (needs, tables))
+    (λ c. search (needs, tables)))
