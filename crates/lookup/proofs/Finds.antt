@@ -23,6 +23,8 @@ use Rattle.format.specs.declared.Looked.{Looked}
 use Rattle.format.specs.declared.Looked.the-variants.{Refused, Absent, At}
 use Rattle.format.specs.declared.Numbered.the-variants as N
 use Rattle.format.proofs.Tests.{pick-by, and-left, and-right}
+use Rattle.format.proofs.Told.{looked-one}
+use Rattle.format.specs.Told.{toldLooked}
 use Rattle.wire.specs.Leads.{lead}
 use Rattle.wire.proofs.Sizes.{part-rest}
 use Rattle.entries.specs.Words.{pairCount, pairAt}
@@ -149,9 +151,10 @@ module _ (ok : Bool) (l : Length) (f key P : List ℕ) (fit : Fit) where
 
 pub ruleset askings = (asked-refused, asked-bad, asked-place)
 
-pub get-is : (f d P : List ℕ) (t : ℕ) (fit : Fit) (h : Held) (r : Looked) → r ≡ asked true (lengthOf W.AnyLength) f (keyOf t d) (heldOf P fit) → heldOf P fit ≡ h → r ≡ look f t d h
+pub get-is : (f d P : List ℕ) (t : ℕ) (fit : Fit) (h : Held) (r : Looked) → r ≡ asked true (lengthOf W.AnyLength) f (keyOf t d) (heldOf P fit) → heldOf P fit ≡ h
+    → toldLooked r ≡ toldLooked (look f t d h)
 unfolding look lengthOf
-get-is f d P t fit h r e q = e ∙ ap (asked true anyLength f (keyOf t d)) q
+get-is f d P t fit h r e q = ap toldLooked (e ∙ ap (asked true anyLength f (keyOf t d)) q)
 
 -- the part that is handed back, and its number
 module _ (f : List ℕ) (o : Looked) where
@@ -183,8 +186,8 @@ module _ (f : List ℕ) (o : Looked) where
         let g : take 8 v ≡ take n (drop s f) = ap (take 8) is ∙ take-all 8 (take n (drop s f)) (rw length-take (omega arith)) in
         ap N.Is (e ∙ ap le g) ∙ sym (rw q)
 
-pub part-is : (f v : List ℕ) (x y : Looked) → v ≡ part f x → x ≡ y → v ≡ part f y
-part-is f v x y e q = e ∙ ap (part f) q
+pub part-is : (f v : List ℕ) (x y : Looked) → v ≡ part f x → toldLooked x ≡ toldLooked y → v ≡ part f y
+part-is f v x y e q = e ∙ ap (part f) (looked-one x y q)
 
 pub ruleset answers = (part-refused, part-absent, part-found, number-refused, number-absent, number-found)
 

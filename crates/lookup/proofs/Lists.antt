@@ -15,6 +15,8 @@ use Rattle.format.specs.Content.{Pair}
 use Rattle.format.specs.Entries.{pairEntries, keyIn, valueIn, shown}
 use Rattle.format.specs.Tables.{Held, holds}
 use Rattle.format.specs.Lookups.{listing, before, list, nthOf, nth, keyPart, valuePart}
+use Rattle.format.specs.Told.{toldListing, toldNth}
+use Rattle.format.proofs.Told.{nth-one}
 use Rattle.format.specs.declared.PsbtError.{PsbtError}
 use Rattle.format.specs.declared.PsbtError.the-variants.{OutOfRange}
 use Rattle.format.specs.declared.Order.{Order}
@@ -122,8 +124,8 @@ module _ (f P : List ℕ) (t : ℕ) (fit : Fit) where
   unfolding heldOf
   list-there m q r e = e ∙ sym (rw q)
 
-pub list-is : (f P : List ℕ) (t : ℕ) (fit : Fit) (h : Held) (r : Listing) → r ≡ list f t (heldOf P fit) → heldOf P fit ≡ h → r ≡ list f t h
-list-is f P t fit h r e q = e ∙ ap (list f t) q
+pub list-is : (f P : List ℕ) (t : ℕ) (fit : Fit) (h : Held) (r : Listing) → r ≡ list f t (heldOf P fit) → heldOf P fit ≡ h → toldListing r ≡ toldListing (list f t h)
+list-is f P t fit h r e q = ap toldListing (e ∙ ap (list f t) q)
 
 pub ruleset listings = (list-refused, list-there)
 
@@ -169,8 +171,8 @@ module _ (P : List ℕ) (fit : Fit) (i : ℕ) where
           let g : getD (entriesOf P m) i noPair ≡ e = getD-take (m .count) (drop (m .first) (pairEntries P)) i noPair h ∙ getD-drop (m .first) (pairEntries P) i noPair ∙ sym is in
           rw q (sym (nth-near i (entriesOf P m) (omega (arith, long)) ∙ ap K.Is g))
 
-pub nth-is : (P : List ℕ) (fit : Fit) (i : ℕ) (h : Held) (r : Nth) → r ≡ nth i (heldOf P fit) → heldOf P fit ≡ h → r ≡ nth i h
-nth-is P fit i h r e q = e ∙ ap (nth i) q
+pub nth-is : (P : List ℕ) (fit : Fit) (i : ℕ) (h : Held) (r : Nth) → r ≡ nth i (heldOf P fit) → heldOf P fit ≡ h → toldNth r ≡ toldNth (nth i h)
+nth-is P fit i h r e q = ap toldNth (e ∙ ap (nth i) q)
 
 pub ruleset nths = (nth-refused, nth-past, nth-fits, nth-in, nth-there)
 
@@ -193,11 +195,11 @@ module _ (f : List ℕ) (o : Nth) where
     unfolding valuePart
     value-there h = h ∙ sym (rw q)
 
-module _ (f v : List ℕ) (x y : Nth) (q : x ≡ y) where
+module _ (f v : List ℕ) (x y : Nth) (q : toldNth x ≡ toldNth y) where
   pub key-is : v ≡ keyPart f x → v ≡ keyPart f y
-  key-is e = e ∙ ap (keyPart f) q
+  key-is e = e ∙ ap (keyPart f) (nth-one x y q)
 
   pub value-is : v ≡ valuePart f x → v ≡ valuePart f y
-  value-is e = e ∙ ap (valuePart f) q
+  value-is e = e ∙ ap (valuePart f) (nth-one x y q)
 
 pub ruleset nth-parts = (key-refused, value-refused, key-there, value-there)

@@ -17,6 +17,7 @@ ghost use Rattle.format.specs.Keys.{typeOf, keyOf, isBelow, isSame, same};
 ghost use Rattle.format.specs.Entries.{keyIn, valueIn};
 ghost use Rattle.format.specs.Tables.{inFile, fit, mapsReported, held, holds};
 ghost use Rattle.format.specs.Lookups.{place, lengthFits, ofLength, asked, look, part, numberAt, list, nth, keyPart, valuePart};
+ghost use Rattle.format.specs.Told.{toldListing, toldLooked, toldNth};
 ghost use Rattle.entries.specs.Words.{pairCount};
 ghost use Rattle.lookup.specs.Fits.{entriesOf, heldOf, fitEntry, notListed, fitAt, fitInput, fitOutput, Within};
 ghost use Rattle.lookup.specs.Walks.{bytesAt, fitOne, lengthOf, Short, oneIf, isBefore, isListed};
@@ -324,7 +325,7 @@ pub fn get(
     key_type: u8,
     key_data: &[u8],
 ) -> Looked
-    ensures { λ r. ⌜ r ≡ look (now (file .entry)) «key_type» (now («key_data» .entry)) (held (now (file .entry)) (now (pairs .entry)) (now (maps .entry)) psbt m) ⌝ }
+    ensures { λ r. ⌜ toldLooked r ≡ toldLooked (look (now (file .entry)) «key_type» (now («key_data» .entry)) (held (now (file .entry)) (now (pairs .entry)) (now (maps .entry)) psbt m)) ⌝ }
 {
     let fit = fit_map(file, pairs, maps, psbt, m);
     asked(
@@ -438,7 +439,7 @@ pub fn list_in(file: &[u8], pairs: &[u32], fit: Fit, key_type: u8) -> Listing
 
 // The listing of a type in map number `m`.
 pub fn list(file: &[u8], pairs: &[u32], maps: &[u32], psbt: Psbt, m: u64, key_type: u8) -> Listing
-    ensures { λ r. ⌜ r ≡ list (now (file .entry)) «key_type» (held (now (file .entry)) (now (pairs .entry)) (now (maps .entry)) psbt m) ⌝ }
+    ensures { λ r. ⌜ toldListing r ≡ toldListing (list (now (file .entry)) «key_type» (held (now (file .entry)) (now (pairs .entry)) (now (maps .entry)) psbt m)) ⌝ }
 {
     let fit = fit_map(file, pairs, maps, psbt, m);
     list_in(file, pairs, fit, key_type)
@@ -462,7 +463,7 @@ pub fn nth_in(pairs: &[u32], fit: Fit, i: usize) -> Nth
 }
 
 pub fn nth(file: &[u8], pairs: &[u32], maps: &[u32], psbt: Psbt, m: u64, i: usize) -> Nth
-    ensures { λ r. ⌜ r ≡ nth i (held (now (file .entry)) (now (pairs .entry)) (now (maps .entry)) psbt m) ⌝ }
+    ensures { λ r. ⌜ toldNth r ≡ toldNth (nth i (held (now (file .entry)) (now (pairs .entry)) (now (maps .entry)) psbt m)) ⌝ }
 {
     let fit = fit_map(file, pairs, maps, psbt, m);
     nth_in(pairs, fit, i)

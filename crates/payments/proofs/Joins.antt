@@ -13,6 +13,7 @@ use Rattle.format.specs.Keys.{keyOf}
 use Rattle.format.specs.Tables.{Held, no, holds}
 use Rattle.format.specs.Lookups.{Length, asked}
 use Rattle.format.specs.Fields.{scanLookup, leafFits, musigLookup, inputParticipants, outputParticipants}
+use Rattle.format.specs.Told.{toldLooked}
 use Rattle.format.specs.declared.Looked.{Looked}
 use Rattle.format.proofs.Tests.{and-left, and-right}
 use Rattle.writer.specs.Writes.{wrote}
@@ -141,19 +142,20 @@ pub ruleset key-lengths = (leaf-none, leaf-some, key-right, key-wrong, musig-rig
 
 -- the same of the asked map
 module _ (f P : List ℕ) (fit : Fit) (h : Held) (q : heldOf P fit ≡ h) (t w : ℕ) (r : Looked) where
-  pub scan-of : (k : List ℕ) → r ≡ scanLookup t w f k (heldOf P fit) → r ≡ scanLookup t w f k h
-  scan-of k e = e ∙ ap (scanLookup t w f k) q
+  pub scan-of : (k : List ℕ) → r ≡ scanLookup t w f k (heldOf P fit) → toldLooked r ≡ toldLooked (scanLookup t w f k h)
+  scan-of k e = ap toldLooked (e ∙ ap (scanLookup t w f k) q)
 
-  pub musig-of : (p a l : List ℕ) → r ≡ musigLookup t w f p a l (heldOf P fit) → r ≡ musigLookup t w f p a l h
-  musig-of p a l e = e ∙ ap (musigLookup t w f p a l) q
+  pub musig-of : (p a l : List ℕ) → r ≡ musigLookup t w f p a l (heldOf P fit) → toldLooked r ≡ toldLooked (musigLookup t w f p a l h)
+  musig-of p a l e = ap toldLooked (e ∙ ap (musigLookup t w f p a l) q)
 
 module _ (f P a : List ℕ) (fit : Fit) (h : Held) (q : heldOf P fit ≡ h) (r : Looked) where
-  pub input-list : (l : List ℕ) (ok : Bool) → r ≡ asked ok (lengthOf W.KeyList) f (keyOf 0x1a (a ++ l)) (heldOf P fit) → ok ≡ keyFits a l → r ≡ inputParticipants f a l h
+  pub input-list : (l : List ℕ) (ok : Bool) → r ≡ asked ok (lengthOf W.KeyList) f (keyOf 0x1a (a ++ l)) (heldOf P fit) → ok ≡ keyFits a l
+      → toldLooked r ≡ toldLooked (inputParticipants f a l h)
   unfolding inputParticipants keyFits lengthOf
-  input-list l ok e k = e ∙ rw (k, q)
+  input-list l ok e k = ap toldLooked (e ∙ rw (k, q))
 
-  pub output-list : r ≡ asked (eqb (length a) 33) (lengthOf W.KeyList) f (keyOf 0x08 a) (heldOf P fit) → r ≡ outputParticipants f a h
+  pub output-list : r ≡ asked (eqb (length a) 33) (lengthOf W.KeyList) f (keyOf 0x08 a) (heldOf P fit) → toldLooked r ≡ toldLooked (outputParticipants f a h)
   unfolding outputParticipants lengthOf
-  output-list e = e ∙ rw q
+  output-list e = ap toldLooked (e ∙ rw q)
 
 pub ruleset of-maps = (scan-of, musig-of, input-list, output-list, list-parts)

@@ -11,6 +11,8 @@ use Rattle.format.specs.Keys.{keyOf}
 use Rattle.format.specs.Tables.{Held, heldInput, heldOutput}
 use Rattle.format.specs.Lookups.{keyList, part}
 use Rattle.format.specs.Fields.{participantCount, participant, utxoOf, utxoBy, witnessUtxo, getWitnessUtxo, inputParticipants, outputParticipants}
+use Rattle.format.specs.Told.{toldLooked, toldNumbered, toldUtxo}
+use Rattle.format.proofs.Told.{looked-one, utxo-one}
 use Rattle.format.specs.declared.PsbtError.{PsbtError}
 use Rattle.format.specs.declared.PsbtError.the-variants.{BadValue, OutOfRange}
 use Rattle.format.specs.declared.Looked.{Looked}
@@ -129,29 +131,29 @@ module _ (f : List ℕ) (o : Utxo) where
 pub ruleset scripts = (script-refused, script-absent, script-found)
 
 -- the same of the asked map
-pub utxo-of : (f : List ℕ) (h : Held) (o : Looked) (r : Utxo) → r ≡ utxoBy f o → o ≡ witnessUtxo f h → r ≡ getWitnessUtxo f h
+pub utxo-of : (f : List ℕ) (h : Held) (o : Looked) (r : Utxo) → r ≡ utxoBy f o → toldLooked o ≡ toldLooked (witnessUtxo f h) → toldUtxo r ≡ toldUtxo (getWitnessUtxo f h)
 unfolding getWitnessUtxo
-utxo-of f h o r e q = e ∙ ap (utxoBy f) q
+utxo-of f h o r e q = ap toldUtxo (e ∙ ap (utxoBy f) (looked-one o (witnessUtxo f h) q))
 
-pub script-of : (f v : List ℕ) (x y : Utxo) → v ≡ utxoPart f x → x ≡ y → v ≡ utxoPart f y
-script-of f v x y e q = e ∙ ap (utxoPart f) q
+pub script-of : (f v : List ℕ) (x y : Utxo) → v ≡ utxoPart f x → toldUtxo x ≡ toldUtxo y → v ≡ utxoPart f y
+script-of f v x y e q = e ∙ ap (utxoPart f) (utxo-one x y q)
 
-pub count-of : (o l : Looked) (r : Numbered) → r ≡ participantCount o → o ≡ l → r ≡ participantCount l
-count-of o l r e q = e ∙ ap participantCount q
+pub count-of : (o l : Looked) (r : Numbered) → r ≡ participantCount o → toldLooked o ≡ toldLooked l → toldNumbered r ≡ toldNumbered (participantCount l)
+count-of o l r e q = ap toldNumbered (e ∙ ap participantCount (looked-one o l q))
 
-pub one-of : (i : ℕ) (o l r : Looked) → r ≡ participant i o → o ≡ l → r ≡ participant i l
-one-of i o l r e q = e ∙ ap (participant i) q
+pub one-of : (i : ℕ) (o l r : Looked) → r ≡ participant i o → toldLooked o ≡ toldLooked l → toldLooked r ≡ toldLooked (participant i l)
+one-of i o l r e q = ap toldLooked (e ∙ ap (participant i) (looked-one o l q))
 
 -- a list of participants lies in the file
 module _ (f P M a : List ℕ) (s : Psbt) (i : ℕ) (o : Looked) where
-  pub input-list-in : (l : List ℕ) → o ≡ inputParticipants f a l (heldInput f P M s i) → Lies f o
+  pub input-list-in : (l : List ℕ) → toldLooked o ≡ toldLooked (inputParticipants f a l (heldInput f P M s i)) → Lies f o
   unfolding inputParticipants
   input-list-in l e =
-      rw (e, ← input-held f P M s i (fitInput f P M s i) refl) (asked-in _ keyList f (keyOf 0x1a (a ++ l)) P (fitInput f P M s i) (input-sound f P M s i (fitInput f P M s i) refl))
+      rw (looked-one o (inputParticipants f a l (heldInput f P M s i)) e, ← input-held f P M s i (fitInput f P M s i) refl) (asked-in _ keyList f (keyOf 0x1a (a ++ l)) P (fitInput f P M s i) (input-sound f P M s i (fitInput f P M s i) refl))
 
-  pub output-list-in : o ≡ outputParticipants f a (heldOutput f P M s i) → Lies f o
+  pub output-list-in : toldLooked o ≡ toldLooked (outputParticipants f a (heldOutput f P M s i)) → Lies f o
   unfolding outputParticipants
   output-list-in e =
-      rw (e, ← output-held f P M s i (fitOutput f P M s i) refl) (asked-in _ keyList f (keyOf 0x08 a) P (fitOutput f P M s i) (output-sound f P M s i (fitOutput f P M s i) refl))
+      rw (looked-one o (outputParticipants f a (heldOutput f P M s i)) e, ← output-held f P M s i (fitOutput f P M s i) refl) (asked-in _ keyList f (keyOf 0x08 a) P (fitOutput f P M s i) (output-sound f P M s i (fitOutput f P M s i) refl))
 
 pub ruleset lists = (count-of, one-of, input-list-in, output-list-in)

@@ -9,6 +9,7 @@ ghost use mathlib.Core.Path.{_≡_};
 ghost use Rattle.format.specs.Tables.{held};
 ghost use Rattle.format.specs.Lookups.{list};
 ghost use Rattle.format.specs.Fields.{globalShare, globalProof};
+ghost use Rattle.format.specs.Told.{toldListing, toldLooked};
 
 // The share of a scan key.
 pub fn get_sp_ecdh_share(
@@ -18,7 +19,7 @@ pub fn get_sp_ecdh_share(
     psbt: Psbt,
     scan_key: &[u8],
 ) -> Looked
-    ensures { λ r. ⌜ r ≡ globalShare (now (file .entry)) (now («scan_key» .entry)) (held (now (file .entry)) (now (pairs .entry)) (now (maps .entry)) psbt 0) ⌝ }
+    ensures { λ r. ⌜ toldLooked r ≡ toldLooked (globalShare (now (file .entry)) (now («scan_key» .entry)) (held (now (file .entry)) (now (pairs .entry)) (now (maps .entry)) psbt 0)) ⌝ }
 {
     let fit = lookup::fit_map(file, pairs, maps, psbt, 0);
     scan_lookup(file, pairs, fit, PSBT_GLOBAL_SP_ECDH_SHARE, 33, scan_key)
@@ -32,20 +33,20 @@ pub fn get_sp_dleq_proof(
     psbt: Psbt,
     scan_key: &[u8],
 ) -> Looked
-    ensures { λ r. ⌜ r ≡ globalProof (now (file .entry)) (now («scan_key» .entry)) (held (now (file .entry)) (now (pairs .entry)) (now (maps .entry)) psbt 0) ⌝ }
+    ensures { λ r. ⌜ toldLooked r ≡ toldLooked (globalProof (now (file .entry)) (now («scan_key» .entry)) (held (now (file .entry)) (now (pairs .entry)) (now (maps .entry)) psbt 0)) ⌝ }
 {
     let fit = lookup::fit_map(file, pairs, maps, psbt, 0);
     scan_lookup(file, pairs, fit, PSBT_GLOBAL_SP_DLEQ, 64, scan_key)
 }
 
 pub fn sp_ecdh_shares(file: &[u8], pairs: &[u32], maps: &[u32], psbt: Psbt) -> Listing
-    ensures { λ r. ⌜ r ≡ list (now (file .entry)) 0x07 (held (now (file .entry)) (now (pairs .entry)) (now (maps .entry)) psbt 0) ⌝ }
+    ensures { λ r. ⌜ toldListing r ≡ toldListing (list (now (file .entry)) 0x07 (held (now (file .entry)) (now (pairs .entry)) (now (maps .entry)) psbt 0)) ⌝ }
 {
     lookup::list(file, pairs, maps, psbt, 0, PSBT_GLOBAL_SP_ECDH_SHARE)
 }
 
 pub fn sp_dleq_proofs(file: &[u8], pairs: &[u32], maps: &[u32], psbt: Psbt) -> Listing
-    ensures { λ r. ⌜ r ≡ list (now (file .entry)) 0x08 (held (now (file .entry)) (now (pairs .entry)) (now (maps .entry)) psbt 0) ⌝ }
+    ensures { λ r. ⌜ toldListing r ≡ toldListing (list (now (file .entry)) 0x08 (held (now (file .entry)) (now (pairs .entry)) (now (maps .entry)) psbt 0)) ⌝ }
 {
     lookup::list(file, pairs, maps, psbt, 0, PSBT_GLOBAL_SP_DLEQ)
 }

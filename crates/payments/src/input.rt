@@ -23,6 +23,7 @@ ghost use mathlib.Core.Path.{_≡_};
 ghost use Rattle.format.specs.Tables.{heldInput};
 ghost use Rattle.format.specs.Lookups.{list};
 ghost use Rattle.format.specs.Fields.{inputShare, inputProof, pubNonce, partialSig, inputParticipants, participantCount, participant, getWitnessUtxo};
+ghost use Rattle.format.specs.Told.{toldListing, toldLooked, toldNumbered, toldUtxo};
 ghost use Rattle.payments.specs.Joined.{utxoPart};
 
 // The share of a scan key.
@@ -34,7 +35,7 @@ pub fn get_sp_ecdh_share(
     i: u64,
     scan_key: &[u8],
 ) -> Looked
-    ensures { λ r. ⌜ r ≡ inputShare (now (file .entry)) (now («scan_key» .entry)) (heldInput (now (file .entry)) (now (pairs .entry)) (now (maps .entry)) psbt i) ⌝ }
+    ensures { λ r. ⌜ toldLooked r ≡ toldLooked (inputShare (now (file .entry)) (now («scan_key» .entry)) (heldInput (now (file .entry)) (now (pairs .entry)) (now (maps .entry)) psbt i)) ⌝ }
 {
     let fit = lookup::fit_input(file, pairs, maps, psbt, i);
     scan_lookup(file, pairs, fit, PSBT_IN_SP_ECDH_SHARE, 33, scan_key)
@@ -49,20 +50,20 @@ pub fn get_sp_dleq_proof(
     i: u64,
     scan_key: &[u8],
 ) -> Looked
-    ensures { λ r. ⌜ r ≡ inputProof (now (file .entry)) (now («scan_key» .entry)) (heldInput (now (file .entry)) (now (pairs .entry)) (now (maps .entry)) psbt i) ⌝ }
+    ensures { λ r. ⌜ toldLooked r ≡ toldLooked (inputProof (now (file .entry)) (now («scan_key» .entry)) (heldInput (now (file .entry)) (now (pairs .entry)) (now (maps .entry)) psbt i)) ⌝ }
 {
     let fit = lookup::fit_input(file, pairs, maps, psbt, i);
     scan_lookup(file, pairs, fit, PSBT_IN_SP_DLEQ, 64, scan_key)
 }
 
 pub fn sp_ecdh_shares(file: &[u8], pairs: &[u32], maps: &[u32], psbt: Psbt, i: u64) -> Listing
-    ensures { λ r. ⌜ r ≡ list (now (file .entry)) 0x1d (heldInput (now (file .entry)) (now (pairs .entry)) (now (maps .entry)) psbt i) ⌝ }
+    ensures { λ r. ⌜ toldListing r ≡ toldListing (list (now (file .entry)) 0x1d (heldInput (now (file .entry)) (now (pairs .entry)) (now (maps .entry)) psbt i)) ⌝ }
 {
     typed::input::iter_keys(file, pairs, maps, psbt, i, PSBT_IN_SP_ECDH_SHARE)
 }
 
 pub fn sp_dleq_proofs(file: &[u8], pairs: &[u32], maps: &[u32], psbt: Psbt, i: u64) -> Listing
-    ensures { λ r. ⌜ r ≡ list (now (file .entry)) 0x1e (heldInput (now (file .entry)) (now (pairs .entry)) (now (maps .entry)) psbt i) ⌝ }
+    ensures { λ r. ⌜ toldListing r ≡ toldListing (list (now (file .entry)) 0x1e (heldInput (now (file .entry)) (now (pairs .entry)) (now (maps .entry)) psbt i)) ⌝ }
 {
     typed::input::iter_keys(file, pairs, maps, psbt, i, PSBT_IN_SP_DLEQ)
 }
@@ -74,7 +75,7 @@ pub fn sp_spend_bip32_derivations(
     psbt: Psbt,
     i: u64,
 ) -> Listing
-    ensures { λ r. ⌜ r ≡ list (now (file .entry)) 0x1f (heldInput (now (file .entry)) (now (pairs .entry)) (now (maps .entry)) psbt i) ⌝ }
+    ensures { λ r. ⌜ toldListing r ≡ toldListing (list (now (file .entry)) 0x1f (heldInput (now (file .entry)) (now (pairs .entry)) (now (maps .entry)) psbt i)) ⌝ }
 {
     typed::input::iter_keys(
         file,
@@ -97,7 +98,7 @@ pub fn get_musig2_pub_nonce(
     aggregate: &[u8],
     leaf: &[u8],
 ) -> Looked
-    ensures { λ r. ⌜ r ≡ pubNonce (now (file .entry)) (now (participant .entry)) (now (aggregate .entry)) (now (leaf .entry)) (heldInput (now (file .entry)) (now (pairs .entry)) (now (maps .entry)) psbt i) ⌝ }
+    ensures { λ r. ⌜ toldLooked r ≡ toldLooked (pubNonce (now (file .entry)) (now (participant .entry)) (now (aggregate .entry)) (now (leaf .entry)) (heldInput (now (file .entry)) (now (pairs .entry)) (now (maps .entry)) psbt i)) ⌝ }
 {
     let fit = lookup::fit_input(file, pairs, maps, psbt, i);
     musig_lookup(
@@ -123,7 +124,7 @@ pub fn get_musig2_partial_sig(
     aggregate: &[u8],
     leaf: &[u8],
 ) -> Looked
-    ensures { λ r. ⌜ r ≡ partialSig (now (file .entry)) (now (participant .entry)) (now (aggregate .entry)) (now (leaf .entry)) (heldInput (now (file .entry)) (now (pairs .entry)) (now (maps .entry)) psbt i) ⌝ }
+    ensures { λ r. ⌜ toldLooked r ≡ toldLooked (partialSig (now (file .entry)) (now (participant .entry)) (now (aggregate .entry)) (now (leaf .entry)) (heldInput (now (file .entry)) (now (pairs .entry)) (now (maps .entry)) psbt i)) ⌝ }
 {
     let fit = lookup::fit_input(file, pairs, maps, psbt, i);
     musig_lookup(
@@ -148,7 +149,7 @@ pub fn get_musig2_participant_pubkeys(
     aggregate: &[u8],
     leaf: &[u8],
 ) -> Looked
-    ensures { λ r. ⌜ r ≡ inputParticipants (now (file .entry)) (now (aggregate .entry)) (now (leaf .entry)) (heldInput (now (file .entry)) (now (pairs .entry)) (now (maps .entry)) psbt i) ⌝ }
+    ensures { λ r. ⌜ toldLooked r ≡ toldLooked (inputParticipants (now (file .entry)) (now (aggregate .entry)) (now (leaf .entry)) (heldInput (now (file .entry)) (now (pairs .entry)) (now (maps .entry)) psbt i)) ⌝ }
 {
     let fit = lookup::fit_input(file, pairs, maps, psbt, i);
     let ok = key_fits(aggregate, leaf);
@@ -175,7 +176,7 @@ pub fn get_musig2_participant_count(
     aggregate: &[u8],
     leaf: &[u8],
 ) -> Numbered
-    ensures { λ r. ⌜ r ≡ participantCount (inputParticipants (now (file .entry)) (now (aggregate .entry)) (now (leaf .entry)) (heldInput (now (file .entry)) (now (pairs .entry)) (now (maps .entry)) psbt i)) ⌝ }
+    ensures { λ r. ⌜ toldNumbered r ≡ toldNumbered (participantCount (inputParticipants (now (file .entry)) (now (aggregate .entry)) (now (leaf .entry)) (heldInput (now (file .entry)) (now (pairs .entry)) (now (maps .entry)) psbt i))) ⌝ }
 {
     participant_count(get_musig2_participant_pubkeys(file, pairs, maps, psbt, i, aggregate, leaf))
 }
@@ -190,7 +191,7 @@ pub fn get_musig2_participant(
     leaf: &[u8],
     n: usize,
 ) -> Looked
-    ensures { λ r. ⌜ r ≡ participant n (inputParticipants (now (file .entry)) (now (aggregate .entry)) (now (leaf .entry)) (heldInput (now (file .entry)) (now (pairs .entry)) (now (maps .entry)) psbt i)) ⌝ }
+    ensures { λ r. ⌜ toldLooked r ≡ toldLooked (participant n (inputParticipants (now (file .entry)) (now (aggregate .entry)) (now (leaf .entry)) (heldInput (now (file .entry)) (now (pairs .entry)) (now (maps .entry)) psbt i))) ⌝ }
 {
     let list = get_musig2_participant_pubkeys(file, pairs, maps, psbt, i, aggregate, leaf);
     nth_participant(file, list, n)
@@ -198,7 +199,7 @@ pub fn get_musig2_participant(
 
 // The witness UTXO: its amount, and where its script stands.
 pub fn get_witness_utxo(file: &[u8], pairs: &[u32], maps: &[u32], psbt: Psbt, i: u64) -> Utxo
-    ensures { λ r. ⌜ r ≡ getWitnessUtxo (now (file .entry)) (heldInput (now (file .entry)) (now (pairs .entry)) (now (maps .entry)) psbt i) ⌝ }
+    ensures { λ r. ⌜ toldUtxo r ≡ toldUtxo (getWitnessUtxo (now (file .entry)) (heldInput (now (file .entry)) (now (pairs .entry)) (now (maps .entry)) psbt i)) ⌝ }
 {
     utxo_by(file, typed::input::witness_utxo(file, pairs, maps, psbt, i))
 }

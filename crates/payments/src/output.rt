@@ -9,6 +9,7 @@ use lookup::Wanted;
 ghost use mathlib.Core.Path.{_≡_};
 ghost use Rattle.format.specs.Tables.{heldOutput};
 ghost use Rattle.format.specs.Fields.{outputParticipants, participantCount, participant};
+ghost use Rattle.format.specs.Told.{toldLooked, toldNumbered};
 
 // The list of participants of an aggregate key.
 pub fn get_musig2_participant_pubkeys(
@@ -19,7 +20,7 @@ pub fn get_musig2_participant_pubkeys(
     i: u64,
     aggregate: &[u8],
 ) -> Looked
-    ensures { λ r. ⌜ r ≡ outputParticipants (now (file .entry)) (now (aggregate .entry)) (heldOutput (now (file .entry)) (now (pairs .entry)) (now (maps .entry)) psbt i) ⌝ }
+    ensures { λ r. ⌜ toldLooked r ≡ toldLooked (outputParticipants (now (file .entry)) (now (aggregate .entry)) (heldOutput (now (file .entry)) (now (pairs .entry)) (now (maps .entry)) psbt i)) ⌝ }
 {
     let fit = lookup::fit_output(file, pairs, maps, psbt, i);
     let ok = aggregate.len() == 33;
@@ -43,7 +44,7 @@ pub fn get_musig2_participant_count(
     i: u64,
     aggregate: &[u8],
 ) -> Numbered
-    ensures { λ r. ⌜ r ≡ participantCount (outputParticipants (now (file .entry)) (now (aggregate .entry)) (heldOutput (now (file .entry)) (now (pairs .entry)) (now (maps .entry)) psbt i)) ⌝ }
+    ensures { λ r. ⌜ toldNumbered r ≡ toldNumbered (participantCount (outputParticipants (now (file .entry)) (now (aggregate .entry)) (heldOutput (now (file .entry)) (now (pairs .entry)) (now (maps .entry)) psbt i))) ⌝ }
 {
     participant_count(get_musig2_participant_pubkeys(file, pairs, maps, psbt, i, aggregate))
 }
@@ -57,7 +58,7 @@ pub fn get_musig2_participant(
     aggregate: &[u8],
     n: usize,
 ) -> Looked
-    ensures { λ r. ⌜ r ≡ participant n (outputParticipants (now (file .entry)) (now (aggregate .entry)) (heldOutput (now (file .entry)) (now (pairs .entry)) (now (maps .entry)) psbt i)) ⌝ }
+    ensures { λ r. ⌜ toldLooked r ≡ toldLooked (participant n (outputParticipants (now (file .entry)) (now (aggregate .entry)) (heldOutput (now (file .entry)) (now (pairs .entry)) (now (maps .entry)) psbt i))) ⌝ }
 {
     let list = get_musig2_participant_pubkeys(file, pairs, maps, psbt, i, aggregate);
     nth_participant(file, list, n)

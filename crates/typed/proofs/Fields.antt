@@ -10,6 +10,7 @@ use Rattle.format.specs.Keys.{keyOf}
 use Rattle.format.specs.Tables.{Held, no, holds}
 use Rattle.format.specs.Lookups.{Length, exactly, lengthFits, ofLength, asked, place, numberAt}
 use Rattle.format.specs.Fields.{partField, numberField}
+use Rattle.format.specs.Told.{toldLooked, toldNumbered}
 use Rattle.format.specs.declared.PsbtError.{PsbtError}
 use Rattle.format.specs.declared.PsbtError.the-variants.{BadValue}
 use Rattle.format.specs.declared.Looked.{Looked}
@@ -59,11 +60,11 @@ numeral P fit w h k = record { within = h; short = k }
 
 -- the same of the asked input or output
 module _ (t : ℕ) (f P : List ℕ) (fit : Fit) (h : Held) (q : heldOf P fit ≡ h) where
-  pub part-is : (l : Length) (r : Looked) → r ≡ partField t l f (heldOf P fit) → r ≡ partField t l f h
-  part-is l r e = e ∙ ap (partField t l f) q
+  pub part-is : (l : Length) (r : Looked) → r ≡ partField t l f (heldOf P fit) → toldLooked r ≡ toldLooked (partField t l f h)
+  part-is l r e = ap toldLooked (e ∙ ap (partField t l f) q)
 
-  pub number-is : (w : ℕ) (r : Numbered) → r ≡ numberField t w f (heldOf P fit) → r ≡ numberField t w f h
-  number-is w r e = e ∙ ap (numberField t w f) q
+  pub number-is : (w : ℕ) (r : Numbered) → r ≡ numberField t w f (heldOf P fit) → toldNumbered r ≡ toldNumbered (numberField t w f h)
+  number-is w r e = ap toldNumbered (e ∙ ap (numberField t w f) q)
 
 pub ruleset fields = (part-field, number-short, number-field, numeral-within)
 

@@ -24,9 +24,10 @@ ghost use mathlib.Core.Path.{_≡_};
 ghost use Rattle.format.specs.Tables.{heldInput};
 ghost use Rattle.format.specs.Lookups.{list};
 ghost use Rattle.format.specs.Fields.{nonWitnessUtxo, witnessUtxo, sighashType, redeemScript, witnessScript, finalScriptsig, finalScriptwitness, previousTxid, outputIndex, sequence, requiredTimeLocktime, requiredHeightLocktime, spTweak};
+ghost use Rattle.format.specs.Told.{toldListing, toldLooked, toldNumbered};
 
 pub fn non_witness_utxo(file: &[u8], pairs: &[u32], maps: &[u32], psbt: Psbt, i: u64) -> Looked
-    ensures { λ r. ⌜ r ≡ nonWitnessUtxo (now (file .entry)) (heldInput (now (file .entry)) (now (pairs .entry)) (now (maps .entry)) psbt i) ⌝ }
+    ensures { λ r. ⌜ toldLooked r ≡ toldLooked (nonWitnessUtxo (now (file .entry)) (heldInput (now (file .entry)) (now (pairs .entry)) (now (maps .entry)) psbt i)) ⌝ }
 {
     input_part(
         file,
@@ -40,7 +41,7 @@ pub fn non_witness_utxo(file: &[u8], pairs: &[u32], maps: &[u32], psbt: Psbt, i:
 }
 
 pub fn witness_utxo(file: &[u8], pairs: &[u32], maps: &[u32], psbt: Psbt, i: u64) -> Looked
-    ensures { λ r. ⌜ r ≡ witnessUtxo (now (file .entry)) (heldInput (now (file .entry)) (now (pairs .entry)) (now (maps .entry)) psbt i) ⌝ }
+    ensures { λ r. ⌜ toldLooked r ≡ toldLooked (witnessUtxo (now (file .entry)) (heldInput (now (file .entry)) (now (pairs .entry)) (now (maps .entry)) psbt i)) ⌝ }
 {
     input_part(
         file,
@@ -54,13 +55,13 @@ pub fn witness_utxo(file: &[u8], pairs: &[u32], maps: &[u32], psbt: Psbt, i: u64
 }
 
 pub fn sighash_type(file: &[u8], pairs: &[u32], maps: &[u32], psbt: Psbt, i: u64) -> Numbered
-    ensures { λ r. ⌜ r ≡ sighashType (now (file .entry)) (heldInput (now (file .entry)) (now (pairs .entry)) (now (maps .entry)) psbt i) ⌝ }
+    ensures { λ r. ⌜ toldNumbered r ≡ toldNumbered (sighashType (now (file .entry)) (heldInput (now (file .entry)) (now (pairs .entry)) (now (maps .entry)) psbt i)) ⌝ }
 {
     input_number(file, pairs, maps, psbt, i, PSBT_IN_SIGHASH_TYPE, 4)
 }
 
 pub fn redeem_script(file: &[u8], pairs: &[u32], maps: &[u32], psbt: Psbt, i: u64) -> Looked
-    ensures { λ r. ⌜ r ≡ redeemScript (now (file .entry)) (heldInput (now (file .entry)) (now (pairs .entry)) (now (maps .entry)) psbt i) ⌝ }
+    ensures { λ r. ⌜ toldLooked r ≡ toldLooked (redeemScript (now (file .entry)) (heldInput (now (file .entry)) (now (pairs .entry)) (now (maps .entry)) psbt i)) ⌝ }
 {
     input_part(
         file,
@@ -74,7 +75,7 @@ pub fn redeem_script(file: &[u8], pairs: &[u32], maps: &[u32], psbt: Psbt, i: u6
 }
 
 pub fn witness_script(file: &[u8], pairs: &[u32], maps: &[u32], psbt: Psbt, i: u64) -> Looked
-    ensures { λ r. ⌜ r ≡ witnessScript (now (file .entry)) (heldInput (now (file .entry)) (now (pairs .entry)) (now (maps .entry)) psbt i) ⌝ }
+    ensures { λ r. ⌜ toldLooked r ≡ toldLooked (witnessScript (now (file .entry)) (heldInput (now (file .entry)) (now (pairs .entry)) (now (maps .entry)) psbt i)) ⌝ }
 {
     input_part(
         file,
@@ -88,7 +89,7 @@ pub fn witness_script(file: &[u8], pairs: &[u32], maps: &[u32], psbt: Psbt, i: u
 }
 
 pub fn final_scriptsig(file: &[u8], pairs: &[u32], maps: &[u32], psbt: Psbt, i: u64) -> Looked
-    ensures { λ r. ⌜ r ≡ finalScriptsig (now (file .entry)) (heldInput (now (file .entry)) (now (pairs .entry)) (now (maps .entry)) psbt i) ⌝ }
+    ensures { λ r. ⌜ toldLooked r ≡ toldLooked (finalScriptsig (now (file .entry)) (heldInput (now (file .entry)) (now (pairs .entry)) (now (maps .entry)) psbt i)) ⌝ }
 {
     input_part(
         file,
@@ -102,7 +103,7 @@ pub fn final_scriptsig(file: &[u8], pairs: &[u32], maps: &[u32], psbt: Psbt, i: 
 }
 
 pub fn final_scriptwitness(file: &[u8], pairs: &[u32], maps: &[u32], psbt: Psbt, i: u64) -> Looked
-    ensures { λ r. ⌜ r ≡ finalScriptwitness (now (file .entry)) (heldInput (now (file .entry)) (now (pairs .entry)) (now (maps .entry)) psbt i) ⌝ }
+    ensures { λ r. ⌜ toldLooked r ≡ toldLooked (finalScriptwitness (now (file .entry)) (heldInput (now (file .entry)) (now (pairs .entry)) (now (maps .entry)) psbt i)) ⌝ }
 {
     input_part(
         file,
@@ -116,7 +117,7 @@ pub fn final_scriptwitness(file: &[u8], pairs: &[u32], maps: &[u32], psbt: Psbt,
 }
 
 pub fn previous_txid(file: &[u8], pairs: &[u32], maps: &[u32], psbt: Psbt, i: u64) -> Looked
-    ensures { λ r. ⌜ r ≡ previousTxid (now (file .entry)) (heldInput (now (file .entry)) (now (pairs .entry)) (now (maps .entry)) psbt i) ⌝ }
+    ensures { λ r. ⌜ toldLooked r ≡ toldLooked (previousTxid (now (file .entry)) (heldInput (now (file .entry)) (now (pairs .entry)) (now (maps .entry)) psbt i)) ⌝ }
 {
     input_part(
         file,
@@ -130,13 +131,13 @@ pub fn previous_txid(file: &[u8], pairs: &[u32], maps: &[u32], psbt: Psbt, i: u6
 }
 
 pub fn output_index(file: &[u8], pairs: &[u32], maps: &[u32], psbt: Psbt, i: u64) -> Numbered
-    ensures { λ r. ⌜ r ≡ outputIndex (now (file .entry)) (heldInput (now (file .entry)) (now (pairs .entry)) (now (maps .entry)) psbt i) ⌝ }
+    ensures { λ r. ⌜ toldNumbered r ≡ toldNumbered (outputIndex (now (file .entry)) (heldInput (now (file .entry)) (now (pairs .entry)) (now (maps .entry)) psbt i)) ⌝ }
 {
     input_number(file, pairs, maps, psbt, i, PSBT_IN_OUTPUT_INDEX, 4)
 }
 
 pub fn sequence(file: &[u8], pairs: &[u32], maps: &[u32], psbt: Psbt, i: u64) -> Numbered
-    ensures { λ r. ⌜ r ≡ sequence (now (file .entry)) (heldInput (now (file .entry)) (now (pairs .entry)) (now (maps .entry)) psbt i) ⌝ }
+    ensures { λ r. ⌜ toldNumbered r ≡ toldNumbered (sequence (now (file .entry)) (heldInput (now (file .entry)) (now (pairs .entry)) (now (maps .entry)) psbt i)) ⌝ }
 {
     input_number(file, pairs, maps, psbt, i, PSBT_IN_SEQUENCE, 4)
 }
@@ -148,7 +149,7 @@ pub fn required_time_locktime(
     psbt: Psbt,
     i: u64,
 ) -> Numbered
-    ensures { λ r. ⌜ r ≡ requiredTimeLocktime (now (file .entry)) (heldInput (now (file .entry)) (now (pairs .entry)) (now (maps .entry)) psbt i) ⌝ }
+    ensures { λ r. ⌜ toldNumbered r ≡ toldNumbered (requiredTimeLocktime (now (file .entry)) (heldInput (now (file .entry)) (now (pairs .entry)) (now (maps .entry)) psbt i)) ⌝ }
 {
     input_number(
         file,
@@ -168,7 +169,7 @@ pub fn required_height_locktime(
     psbt: Psbt,
     i: u64,
 ) -> Numbered
-    ensures { λ r. ⌜ r ≡ requiredHeightLocktime (now (file .entry)) (heldInput (now (file .entry)) (now (pairs .entry)) (now (maps .entry)) psbt i) ⌝ }
+    ensures { λ r. ⌜ toldNumbered r ≡ toldNumbered (requiredHeightLocktime (now (file .entry)) (heldInput (now (file .entry)) (now (pairs .entry)) (now (maps .entry)) psbt i)) ⌝ }
 {
     input_number(
         file,
@@ -182,7 +183,7 @@ pub fn required_height_locktime(
 }
 
 pub fn sp_tweak(file: &[u8], pairs: &[u32], maps: &[u32], psbt: Psbt, i: u64) -> Looked
-    ensures { λ r. ⌜ r ≡ spTweak (now (file .entry)) (heldInput (now (file .entry)) (now (pairs .entry)) (now (maps .entry)) psbt i) ⌝ }
+    ensures { λ r. ⌜ toldLooked r ≡ toldLooked (spTweak (now (file .entry)) (heldInput (now (file .entry)) (now (pairs .entry)) (now (maps .entry)) psbt i)) ⌝ }
 {
     input_part(
         file,
@@ -204,14 +205,14 @@ pub fn iter_keys(
     i: u64,
     key_type: u8,
 ) -> Listing
-    ensures { λ r. ⌜ r ≡ list (now (file .entry)) «key_type» (heldInput (now (file .entry)) (now (pairs .entry)) (now (maps .entry)) psbt i) ⌝ }
+    ensures { λ r. ⌜ toldListing r ≡ toldListing (list (now (file .entry)) «key_type» (heldInput (now (file .entry)) (now (pairs .entry)) (now (maps .entry)) psbt i)) ⌝ }
 {
     let fit = lookup::fit_input(file, pairs, maps, psbt, i);
     lookup::list_in(file, pairs, fit, key_type)
 }
 
 pub fn bip32_derivations(file: &[u8], pairs: &[u32], maps: &[u32], psbt: Psbt, i: u64) -> Listing
-    ensures { λ r. ⌜ r ≡ list (now (file .entry)) 0x06 (heldInput (now (file .entry)) (now (pairs .entry)) (now (maps .entry)) psbt i) ⌝ }
+    ensures { λ r. ⌜ toldListing r ≡ toldListing (list (now (file .entry)) 0x06 (heldInput (now (file .entry)) (now (pairs .entry)) (now (maps .entry)) psbt i)) ⌝ }
 {
     iter_keys(file, pairs, maps, psbt, i, PSBT_IN_BIP32_DERIVATION)
 }

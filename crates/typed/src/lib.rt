@@ -8,6 +8,7 @@ ghost use mathlib.Core.Path.{_≡_};
 ghost use Prim.Native.Nat.{_≤_};
 ghost use Rattle.format.specs.Tables.{heldInput, heldOutput};
 ghost use Rattle.format.specs.Fields.{partField, numberField};
+ghost use Rattle.format.specs.Told.{toldLooked, toldNumbered};
 ghost use Rattle.lookup.specs.Fits.{heldOf, Within};
 ghost use Rattle.lookup.specs.Walks.{lengthOf};
 ghost use Rattle.typed.specs.Numerals.{Numeral};
@@ -42,7 +43,7 @@ fn input_part(
     key_type: u8,
     wanted: Wanted,
 ) -> Looked
-    ensures { λ r. ⌜ r ≡ partField «key_type» (lengthOf wanted) (now (file .entry)) (heldInput (now (file .entry)) (now (pairs .entry)) (now (maps .entry)) psbt i) ⌝ }
+    ensures { λ r. ⌜ toldLooked r ≡ toldLooked (partField «key_type» (lengthOf wanted) (now (file .entry)) (heldInput (now (file .entry)) (now (pairs .entry)) (now (maps .entry)) psbt i)) ⌝ }
 {
     let fit = lookup::fit_input(file, pairs, maps, psbt, i);
     part_field(file, pairs, fit, key_type, wanted)
@@ -58,7 +59,7 @@ fn input_number(
     width: usize,
 ) -> Numbered
     requires { ⌜ width ≤ 8 ⌝ }
-    ensures { λ r. ⌜ r ≡ numberField «key_type» width (now (file .entry)) (heldInput (now (file .entry)) (now (pairs .entry)) (now (maps .entry)) psbt i) ⌝ }
+    ensures { λ r. ⌜ toldNumbered r ≡ toldNumbered (numberField «key_type» width (now (file .entry)) (heldInput (now (file .entry)) (now (pairs .entry)) (now (maps .entry)) psbt i)) ⌝ }
 {
     let fit = lookup::fit_input(file, pairs, maps, psbt, i);
     number_field(file, pairs, fit, key_type, width)
@@ -74,7 +75,7 @@ fn output_part(
     key_type: u8,
     wanted: Wanted,
 ) -> Looked
-    ensures { λ r. ⌜ r ≡ partField «key_type» (lengthOf wanted) (now (file .entry)) (heldOutput (now (file .entry)) (now (pairs .entry)) (now (maps .entry)) psbt i) ⌝ }
+    ensures { λ r. ⌜ toldLooked r ≡ toldLooked (partField «key_type» (lengthOf wanted) (now (file .entry)) (heldOutput (now (file .entry)) (now (pairs .entry)) (now (maps .entry)) psbt i)) ⌝ }
 {
     let fit = lookup::fit_output(file, pairs, maps, psbt, i);
     part_field(file, pairs, fit, key_type, wanted)
@@ -90,7 +91,7 @@ fn output_number(
     width: usize,
 ) -> Numbered
     requires { ⌜ width ≤ 8 ⌝ }
-    ensures { λ r. ⌜ r ≡ numberField «key_type» width (now (file .entry)) (heldOutput (now (file .entry)) (now (pairs .entry)) (now (maps .entry)) psbt i) ⌝ }
+    ensures { λ r. ⌜ toldNumbered r ≡ toldNumbered (numberField «key_type» width (now (file .entry)) (heldOutput (now (file .entry)) (now (pairs .entry)) (now (maps .entry)) psbt i)) ⌝ }
 {
     let fit = lookup::fit_output(file, pairs, maps, psbt, i);
     number_field(file, pairs, fit, key_type, width)

@@ -17,9 +17,10 @@ ghost use mathlib.Core.Path.{_≡_};
 ghost use Rattle.format.specs.Tables.{heldOutput};
 ghost use Rattle.format.specs.Lookups.{list};
 ghost use Rattle.format.specs.Fields.{outRedeemScript, outWitnessScript, amount, script, spV0Info, spV0Label};
+ghost use Rattle.format.specs.Told.{toldListing, toldLooked, toldNumbered};
 
 pub fn redeem_script(file: &[u8], pairs: &[u32], maps: &[u32], psbt: Psbt, i: u64) -> Looked
-    ensures { λ r. ⌜ r ≡ outRedeemScript (now (file .entry)) (heldOutput (now (file .entry)) (now (pairs .entry)) (now (maps .entry)) psbt i) ⌝ }
+    ensures { λ r. ⌜ toldLooked r ≡ toldLooked (outRedeemScript (now (file .entry)) (heldOutput (now (file .entry)) (now (pairs .entry)) (now (maps .entry)) psbt i)) ⌝ }
 {
     output_part(
         file,
@@ -33,7 +34,7 @@ pub fn redeem_script(file: &[u8], pairs: &[u32], maps: &[u32], psbt: Psbt, i: u6
 }
 
 pub fn witness_script(file: &[u8], pairs: &[u32], maps: &[u32], psbt: Psbt, i: u64) -> Looked
-    ensures { λ r. ⌜ r ≡ outWitnessScript (now (file .entry)) (heldOutput (now (file .entry)) (now (pairs .entry)) (now (maps .entry)) psbt i) ⌝ }
+    ensures { λ r. ⌜ toldLooked r ≡ toldLooked (outWitnessScript (now (file .entry)) (heldOutput (now (file .entry)) (now (pairs .entry)) (now (maps .entry)) psbt i)) ⌝ }
 {
     output_part(
         file,
@@ -47,13 +48,13 @@ pub fn witness_script(file: &[u8], pairs: &[u32], maps: &[u32], psbt: Psbt, i: u
 }
 
 pub fn amount(file: &[u8], pairs: &[u32], maps: &[u32], psbt: Psbt, i: u64) -> Numbered
-    ensures { λ r. ⌜ r ≡ amount (now (file .entry)) (heldOutput (now (file .entry)) (now (pairs .entry)) (now (maps .entry)) psbt i) ⌝ }
+    ensures { λ r. ⌜ toldNumbered r ≡ toldNumbered (amount (now (file .entry)) (heldOutput (now (file .entry)) (now (pairs .entry)) (now (maps .entry)) psbt i)) ⌝ }
 {
     output_number(file, pairs, maps, psbt, i, PSBT_OUT_AMOUNT, 8)
 }
 
 pub fn script(file: &[u8], pairs: &[u32], maps: &[u32], psbt: Psbt, i: u64) -> Looked
-    ensures { λ r. ⌜ r ≡ script (now (file .entry)) (heldOutput (now (file .entry)) (now (pairs .entry)) (now (maps .entry)) psbt i) ⌝ }
+    ensures { λ r. ⌜ toldLooked r ≡ toldLooked (script (now (file .entry)) (heldOutput (now (file .entry)) (now (pairs .entry)) (now (maps .entry)) psbt i)) ⌝ }
 {
     output_part(
         file,
@@ -67,7 +68,7 @@ pub fn script(file: &[u8], pairs: &[u32], maps: &[u32], psbt: Psbt, i: u64) -> L
 }
 
 pub fn sp_v0_info(file: &[u8], pairs: &[u32], maps: &[u32], psbt: Psbt, i: u64) -> Looked
-    ensures { λ r. ⌜ r ≡ spV0Info (now (file .entry)) (heldOutput (now (file .entry)) (now (pairs .entry)) (now (maps .entry)) psbt i) ⌝ }
+    ensures { λ r. ⌜ toldLooked r ≡ toldLooked (spV0Info (now (file .entry)) (heldOutput (now (file .entry)) (now (pairs .entry)) (now (maps .entry)) psbt i)) ⌝ }
 {
     output_part(
         file,
@@ -81,7 +82,7 @@ pub fn sp_v0_info(file: &[u8], pairs: &[u32], maps: &[u32], psbt: Psbt, i: u64) 
 }
 
 pub fn sp_v0_label(file: &[u8], pairs: &[u32], maps: &[u32], psbt: Psbt, i: u64) -> Numbered
-    ensures { λ r. ⌜ r ≡ spV0Label (now (file .entry)) (heldOutput (now (file .entry)) (now (pairs .entry)) (now (maps .entry)) psbt i) ⌝ }
+    ensures { λ r. ⌜ toldNumbered r ≡ toldNumbered (spV0Label (now (file .entry)) (heldOutput (now (file .entry)) (now (pairs .entry)) (now (maps .entry)) psbt i)) ⌝ }
 {
     output_number(file, pairs, maps, psbt, i, PSBT_OUT_SP_V0_LABEL, 4)
 }
@@ -95,14 +96,14 @@ pub fn iter_keys(
     i: u64,
     key_type: u8,
 ) -> Listing
-    ensures { λ r. ⌜ r ≡ list (now (file .entry)) «key_type» (heldOutput (now (file .entry)) (now (pairs .entry)) (now (maps .entry)) psbt i) ⌝ }
+    ensures { λ r. ⌜ toldListing r ≡ toldListing (list (now (file .entry)) «key_type» (heldOutput (now (file .entry)) (now (pairs .entry)) (now (maps .entry)) psbt i)) ⌝ }
 {
     let fit = lookup::fit_output(file, pairs, maps, psbt, i);
     lookup::list_in(file, pairs, fit, key_type)
 }
 
 pub fn bip32_derivations(file: &[u8], pairs: &[u32], maps: &[u32], psbt: Psbt, i: u64) -> Listing
-    ensures { λ r. ⌜ r ≡ list (now (file .entry)) 0x02 (heldOutput (now (file .entry)) (now (pairs .entry)) (now (maps .entry)) psbt i) ⌝ }
+    ensures { λ r. ⌜ toldListing r ≡ toldListing (list (now (file .entry)) 0x02 (heldOutput (now (file .entry)) (now (pairs .entry)) (now (maps .entry)) psbt i)) ⌝ }
 {
     iter_keys(file, pairs, maps, psbt, i, PSBT_OUT_BIP32_DERIVATION)
 }
