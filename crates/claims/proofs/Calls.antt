@@ -59,7 +59,7 @@ place-is f l key (e ∷ es) h =
     ∙ ap₂ (pick t) (value-is f l e (and-left (inFile f e) (every (inFile f) es) h)) (place-is f l key es (and-right (inFile f e) (every (inFile f) es) h))
     ∙ sym (pick-ap (ofLengthIn l) t _ _)
 
-asked-is : (f P M : List ℕ) (s : Psbt) (m : ℕ) (key : List ℕ) (ok : Bool) (l : Length) (h : Held) → held f P M s m ≡ h → answerAt f (asked ok l f key h) ≡ lookIn ok l key (viewOf f h)
+pub asked-is : (f P M : List ℕ) (s : Psbt) (m : ℕ) (key : List ℕ) (ok : Bool) (l : Length) (h : Held) → held f P M s m ≡ h → answerAt f (asked ok l f key h) ≡ lookIn ok l key (viewOf f h)
 unfolding asked lookIn viewOf answerAt
 asked-is f P M s m key ok l (no e) q = refl
 asked-is f P M s m key ok l (holds es) q =
@@ -82,7 +82,7 @@ unfolding numberField partField
 number-is f g t w x y h = number-in f _ ∙ ap numberIn h ∙ sym (number-in g _)
 
 -- a listing names what is shown of its type, as keys rise
-list-in : (f P M : List ℕ) (s : Psbt) (m t : ℕ) (h : Held) → held f P M s m ≡ h → listAt f (list f t h) h ≡ listIn t (viewOf f h)
+pub list-in : (f P M : List ℕ) (s : Psbt) (m t : ℕ) (h : Held) → held f P M s m ≡ h → listAt f (list f t h) h ≡ listIn t (viewOf f h)
 unfolding list listAt listIn viewOf
 list-in f P M s m t (no e) q = refl
 list-in f P M s m t (holds es) q = ap shows (listing-is t [] (map (shown f) es) (held-shows f P M s m es q .1))

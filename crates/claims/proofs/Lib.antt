@@ -1,3 +1,5 @@
 pub mod Strikes
 pub mod Newers
 pub mod Calls
+pub mod Outcomes
+pub mod Meaning

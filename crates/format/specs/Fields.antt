@@ -175,3 +175,9 @@ utxoBy f (At s n) = utxoOf s (take n (drop s f))
 -- the witness UTXO of an input, 01
 unfoldable pub getWitnessUtxo : List ℕ → Held → Utxo
 getWitnessUtxo f h = utxoBy f (witnessUtxo f h)
+
+-- the part of the file that is its script: empty for absence and refusal
+unfoldable pub utxoPart : List ℕ → Utxo → List ℕ
+utxoPart f (U.Refused e) = []
+utxoPart f U.Absent = []
+utxoPart f (U.Is a s n) = take n (drop s f)

@@ -15,7 +15,6 @@ use Rattle.format.specs.declared.Ruled.{Ruled}
 use Rattle.format.specs.declared.Ruled.the-variants as R
 use Rattle.format.specs.declared.Lock.{Lock}
 use Rattle.format.specs.declared.Lock.the-variants as L
-use Rattle.format.proofs.Told.{lock-one}
 use Rattle.all_maps.specs.Alls.{ruledBy, inAt, from, insOf}
 use Rattle.all_maps.proofs.Runs.{from-none, from-one}
 use Rattle.all_maps.proofs.Gathers.{all-are, all-not, all-reported, input-whole}
@@ -119,10 +118,6 @@ module _ (f P M : List ℕ) (s : Psbt) (y : Ruled) (is : y ≡ ruledBy (gather (
       ap toldLock (er ∙ ap (decideAsks (s .«fallback_locktime»)) ea ∙ decides (s .«fallback_locktime») (insOf f P M s) ∙ ap (lockBy s) (all-reported f P M s (all-are f P M s y is q)))
 
 pub ruleset calls = (all-are, told-refused, told-decided)
-
--- any two answers that meet the promise agree
-pub one-lock : (f P M : List ℕ) (s : Psbt) (a b : Lock) → toldLock a ≡ toldLock (lockDecided (view f P M s) s) → toldLock b ≡ toldLock (lockDecided (view f P M s) s) → a ≡ b
-one-lock f P M s a b p q = lock-one a b (p ∙ sym q)
 
 -- the lock time that was decided
 pub locked-by : (l x : Lock) (r : LockTime) → l ≡ x → lockedBy r ≡ lockOf x → lockedBy r ≡ lockOf l

@@ -10,7 +10,7 @@ use mir.Val.{Fits}
 use Rattle.format.specs.Keys.{keyOf}
 use Rattle.format.specs.Tables.{Held, heldInput, heldOutput}
 use Rattle.format.specs.Lookups.{keyList, part}
-use Rattle.format.specs.Fields.{participantCount, participant, utxoOf, utxoBy, witnessUtxo, getWitnessUtxo, inputParticipants, outputParticipants}
+use Rattle.format.specs.Fields.{participantCount, participant, utxoOf, utxoBy, utxoPart, witnessUtxo, getWitnessUtxo, inputParticipants, outputParticipants}
 use Rattle.format.specs.Told.{toldLooked, toldNumbered, toldUtxo}
 use Rattle.format.proofs.Told.{looked-one, utxo-one}
 use Rattle.format.specs.declared.PsbtError.{PsbtError}
@@ -27,7 +27,7 @@ use Rattle.lookup.specs.Fits.{fitInput, fitOutput}
 use Rattle.lookup.specs.Walks.{Lies}
 use Rattle.lookup.proofs.Maps.{input-held, output-held, input-sound, output-sound}
 use Rattle.lookup.proofs.Finds.{asked-in}
-use Rattle.payments.specs.Joined.{Placed, utxoPart}
+use Rattle.payments.specs.Joined.{Placed}
 
 -- participants, by what was found
 module _ (o : Looked) where

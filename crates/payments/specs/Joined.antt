@@ -1,13 +1,11 @@
--- Keys put together of parts, what reading a value asks of its place, and the part that is a script.
+-- Keys put together of parts, and what reading a value asks of its place.
 use Prim.Native.Nat.{ℕ, _+_, _^_, _≤_, _<_}
 use mathlib.Core.Path.{_≡_}
 use mathlib.Core.Bool.{Bool, true, _&&_}
-use mathlib.Core.List.{List, []}
-use lib.ListN.{length, take, drop}
+use mathlib.Core.List.{List}
+use lib.ListN.{length}
 use lib.Dec.{eqb}
 use Rattle.format.specs.Fields.{leafFits}
-use Rattle.format.specs.declared.Utxo.{Utxo}
-use Rattle.format.specs.declared.Utxo.the-variants as U
 use Rattle.lookup.specs.Fits.{Within}
 use Rattle.lookup.specs.declared.Fit.{Fit}
 
@@ -32,9 +30,3 @@ pub record Parts (P : List ℕ) (fit : Fit) (ok : Bool) (a b c : List ℕ) : Typ
 -- the end of a value's bytes is a place
 pub record Placed (s : ℕ) (v : List ℕ) : Type 0 where
   pub fits : s + length v < 2 ^ 64
-
--- the script of a witness UTXO
-unfoldable pub utxoPart : List ℕ → Utxo → List ℕ
-utxoPart f (U.Refused e) = []
-utxoPart f U.Absent = []
-utxoPart f (U.Is a s n) = take n (drop s f)

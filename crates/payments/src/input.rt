@@ -22,9 +22,8 @@ use lookup::Wanted;
 ghost use mathlib.Core.Path.{_≡_};
 ghost use Rattle.format.specs.Tables.{heldInput};
 ghost use Rattle.format.specs.Lookups.{list};
-ghost use Rattle.format.specs.Fields.{inputShare, inputProof, pubNonce, partialSig, inputParticipants, participantCount, participant, getWitnessUtxo};
+ghost use Rattle.format.specs.Fields.{inputShare, inputProof, pubNonce, partialSig, inputParticipants, participantCount, participant, getWitnessUtxo, utxoPart};
 ghost use Rattle.format.specs.Told.{toldListing, toldLooked, toldNumbered, toldUtxo};
-ghost use Rattle.payments.specs.Joined.{utxoPart};
 
 // The share of a scan key.
 pub fn get_sp_ecdh_share(

@@ -10,10 +10,10 @@ ghost use mathlib.Core.Bool.{true};
 ghost use mathlib.Core.List.{_++_};
 ghost use Rattle.format.specs.Keys.{keyOf};
 ghost use Rattle.format.specs.Lookups.{asked};
-ghost use Rattle.format.specs.Fields.{scanLookup, leafFits, musigLookup, participantCount, participant, utxoOf, utxoBy};
+ghost use Rattle.format.specs.Fields.{scanLookup, leafFits, musigLookup, participantCount, participant, utxoOf, utxoBy, utxoPart};
 ghost use Rattle.lookup.specs.Fits.{heldOf, Within};
 ghost use Rattle.lookup.specs.Walks.{lengthOf, Lies};
-ghost use Rattle.payments.specs.Joined.{keyFits, musigFits, Joined, Parts, Placed, utxoPart};
+ghost use Rattle.payments.specs.Joined.{keyFits, musigFits, Joined, Parts, Placed};
 
 pub mod global;
 pub mod input;

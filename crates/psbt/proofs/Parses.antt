@@ -1,8 +1,8 @@
 -- A parse is its length, its magic and its maps, cut by the room; any two outcomes that meet its promise agree; and what it accepts it shows.
 use Prim.Native.Nat.{ℕ, _≤_, _<_}
-use mathlib.Core.Path.{_≡_, refl, sym, _∙_, ap}
+use mathlib.Core.Path.{_≡_, sym, _∙_, ap}
 use mathlib.Core.Bool.{Bool, true, false, not}
-use mathlib.Core.List.{List, []}
+use mathlib.Core.List.{List}
 use native.Mathlib.Omega.{arith}
 use borrow.Author.Tests.{le-leb, lt-leb, not-true, not-false}
 use lib.ListN.{length, take, drop, length-take}
@@ -12,7 +12,7 @@ use Rattle.format.specs.Content.{magic, mapsOf}
 use Rattle.format.specs.Reading.{limit, events, reading}
 use Rattle.format.specs.Tables.{view}
 use Rattle.format.specs.Parse.{ParseOut, out, cut, parsed}
-use Rattle.format.specs.Told.{ToldParse, toldWith, toldParsed, toldParse}
+use Rattle.format.specs.Told.{toldWith, toldParsed, toldParse}
 use Rattle.format.specs.declared.PsbtError.the-variants.{InvalidMagic, TooLong}
 use Rattle.format.specs.declared.Order.{Order}
 use Rattle.format.specs.declared.Order.the-variants.{Below, Same, Above}
@@ -82,14 +82,6 @@ module _ (F P M : List ℕ) where
         tell r P′ M′ _ (q ∙ sym (rw (le-leb (length F) 1_048_576 l, sym e ∙ not-false b h) (cut-lean 5 0 0 0 P M _ ∙ ap (λ x. cutLean 5 0 0 0 P M (begins x)) (maps-walked (drop 5 F)))))
 
 pub ruleset parses = (too-long, no-magic, in-limit, maps-told)
-
--- one outcome
-pub one-parse : (F P M : List ℕ) (r₁ r₂ : Parsed) (P₁ P₂ M₁ M₂ : List ℕ) → toldWith (toldParsed r₁) P₁ M₁ ≡ toldParse (parsed F P M) → toldWith (toldParsed r₂) P₂ M₂ ≡ toldParse (parsed F P M)
-    → (r₁ ≡ r₂) × (P₁ ≡ P₂) × (M₁ ≡ M₂)
-unfolding toldParse
-one-parse F P M r₁ r₂ P₁ P₂ M₁ M₂ a b =
-    let e : out r₁ P₁ M₁ ≡ out r₂ P₂ M₂ = parse-out-one (out r₁ P₁ M₁) (out r₂ P₂ M₂) (a ∙ sym b) in
-    ((cc), (cc), (cc))
 
 -- an outcome that meets the promise is the definition's
 parse-is : (F P M : List ℕ) (r : Parsed) (P′ M′ : List ℕ) → toldWith (toldParsed r) P′ M′ ≡ toldParse (parsed F P M) → parsed F P M ≡ out r P′ M′

@@ -9,7 +9,7 @@ use lib.Dec.{ltb, eqb}
 use borrow.Author.Tests.{ne-eqb, eqb-true, eqb-false}
 use Rattle.format.specs.Tests.{every}
 use Rattle.format.specs.Tables.{view, gather, mapsReported}
-use Rattle.format.specs.Scripts.{Out, Reported, allowed, served, Given, whole, cutShort, flat, entriesFor, rightFor, settable, SetOut, setOut, afterSet, setTable, setGiven, setBy, setScripts}
+use Rattle.format.specs.Scripts.{Out, Reported, allowed, served, Given, whole, cutShort, flat, entriesFor, rightFor, settable, setOut, afterSet, setTable, setGiven, setBy, setScripts}
 use Rattle.format.specs.Told.{toldLeft, toldSet, toldSetOut}
 use Rattle.format.specs.declared.PsbtError.{PsbtError}
 use Rattle.format.specs.declared.PsbtError.the-variants.{InvalidOutputScripts}
@@ -21,7 +21,6 @@ use Rattle.format.specs.declared.Ruled.the-variants as R
 use Rattle.format.specs.declared.ScriptsSet.{ScriptsSet}
 use Rattle.format.specs.declared.ScriptsSet.the-variants.{Refused}
 use Rattle.format.proofs.Tests.{and-left, and-right, never-true}
-use Rattle.format.proofs.Told.{set-out-one}
 use Rattle.all_maps.specs.Alls.{ruledBy, AllFit, outAt, outsOf}
 use Rattle.all_maps.proofs.Runs.{from-length}
 use Rattle.all_maps.proofs.Gathers.{all-are, all-not, all-reported}
@@ -106,9 +105,3 @@ module _ (f P M : List ℕ) (s : Psbt) (l buffer : List ℕ) (t : State) (T : Li
     told-is T₁ x e = ap toldSetOut (e ∙ ap (setBy buffer t T (flat l)) (all-reported f P M s told-fit))
 
 pub ruleset sets-told = (told-unfit, told-fit, told-is)
-
--- any two outcomes that meet the promise are one
-pub one-set : (a b : ScriptsSet) (T₁ T₂ : List ℕ) (o : SetOut) → toldLeft (toldSet a) T₁ ≡ toldSetOut o → toldLeft (toldSet b) T₂ ≡ toldSetOut o
-    → (a ≡ b) × (T₁ ≡ T₂)
-unfolding toldSetOut
-one-set a b T₁ T₂ o p q = let e : setOut a T₁ ≡ setOut b T₂ = set-out-one (setOut a T₁) (setOut b T₂) (p ∙ sym q) in ((cc), (cc))
