@@ -23,7 +23,7 @@ use Rattle.claims.proofs.Calls.{asked-is, list-in}
 
 -- a file with content c, and an outcome that meets the promise of `parse` and accepts
 module _ (f P M : List ℕ) (c : Content) (reads : reading f ≡ accepted c) (s : Psbt) (p m : ℕ) (P′ M′ : List ℕ)
-  (parses : toldWith (toldParsed (Accepted s p m)) P′ M′ ≡ toldParse (parsed f P M)) where
+    (parses : toldWith (toldParsed (Accepted s p m)) P′ M′ ≡ toldParse (parsed f P M)) where
   accepts : Accepts f P M s p m P′ M′
   unfolding toldParse
   accepts = accepted-is f P M s p m P′ M′ (sym (parse-out-one (out (Accepted s p m) P′ M′) (parsed f P M) parses))
