@@ -4,11 +4,12 @@ use mathlib.Core.List.{List, _∷_}
 use mathlib.Core.Bool.{Bool, true, false, not}
 use Prim.Native.Nat.{ℕ, suc, _+_, _≤_, _<_}
 use native.Mathlib.Numerals.{add-one}
+use native.Mathlib.Omega.{arith}
 use borrow.Author.Tests.{eq-eqb, ne-eqb}
 use lib.Dec.{eqb}
 use lib.ListN.{length, getD, drop, drop-of-length-le}
 use lib.Seq.{drop-cons}
-use Rattle.format.specs.Rules.{sizedTypes, valueFits, isRow, rowRule, sizesIn, sizes}
+use Rattle.format.specs.Rules.{valueFits, isRow, rowRule, sizesIn}
 use Rattle.format.specs.declared.SizedType.{SizedType}
 use Rattle.format.specs.declared.Ruled.{Ruled}
 use Rattle.format.specs.declared.Ruled.the-variants.{Passed, Refused}
@@ -66,24 +67,22 @@ module _ (rs : List SizedType) (k t n m i : ℕ) (h : i < length rs) (b : Bool) 
   unfolding sizesIn
   passed q = look ∙ pick-no _ _ _ (sym e ∙ q) ∙ rw add-one
 
--- the table from a row on says what the whole says
-abbrev pub From : ℕ → ℕ → ℕ → ℕ → ℕ → Type 0
-From k t n m i = sizesIn (drop i sizedTypes) k t n m ≡ sizes k t n m
+-- the rows from one on say what all say
+abbrev pub From : List SizedType → ℕ → ℕ → ℕ → ℕ → ℕ → Type 0
+From rs k t n m i = sizesIn (drop i rs) k t n m ≡ sizesIn rs k t n m
 
-pub row-first : (k t n m : ℕ) → From k t n m 0
-unfolding sizes
-row-first k t n m = refl
+pub row-first : (rs : List SizedType) (k t n m : ℕ) → From rs k t n m 0
+row-first rs k t n m = refl
 
-module _ (k t n m i : ℕ) (on : From k t n m i) where
-  pub row-found : i < length sizedTypes → (b : Bool) → b ≡ isRow (getD sizedTypes i none) k t → b ≡ true
-      → (r : Ruled) → r ≡ rowRule (getD sizedTypes i none) n m → r ≡ sizes k t n m
-  row-found h b e q r w = w ∙ found sizedTypes k t n m i h b e q ∙ on
+module _ (rs : List SizedType) (k t n m i : ℕ) (on : From rs k t n m i) where
+  pub row-found : i < length rs → (b : Bool) → b ≡ isRow (getD rs i none) k t → b ≡ true → (r : Ruled) → r ≡ rowRule (getD rs i none) n m → r ≡ sizesIn rs k t n m
+  row-found h b e q r w = w ∙ found rs k t n m i h b e q ∙ on
 
-  pub row-passed : i < length sizedTypes → (b : Bool) → b ≡ isRow (getD sizedTypes i none) k t → b ≡ false → From k t n m (i + 1)
-  row-passed h b e q = sym (passed sizedTypes k t n m i h b e q) ∙ on
+  pub row-passed : i < length rs → (b : Bool) → b ≡ isRow (getD rs i none) k t → b ≡ false → From rs k t n m (i + 1)
+  row-passed h b e q = sym (passed rs k t n m i h b e q) ∙ on
 
-  pub row-free : length sizedTypes ≤ i → Passed ≡ sizes k t n m
+  pub row-free : (z : ℕ) → length rs ≡ z → z ≤ i → Passed ≡ sizesIn rs k t n m
   unfolding sizesIn
-  row-free h = sym (ap (λ (l : List SizedType). sizesIn l k t n m) (drop-of-length-le sizedTypes h)) ∙ on
+  row-free z e h = let w : length rs ≤ i = omega arith in sym (ap (λ (l : List SizedType). sizesIn l k t n m) (drop-of-length-le rs w)) ∙ on
 
 pub ruleset rows = (row-first, row-found, row-passed, row-free)

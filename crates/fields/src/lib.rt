@@ -30,12 +30,12 @@ use format::Size;
 use format::SizedType;
 ghost use mathlib.Core.Path.{_≡_};
 ghost use Rattle.format.specs.Compact.{size, countBy};
-ghost use Rattle.format.specs.Rules.{valueFits, isRow, rowRule, sizes, countRule};
+ghost use Rattle.format.specs.Rules.{valueFits, isRow, rowRule, sizesIn, sizes, countRule};
 ghost use Rattle.fields.specs.Rows.{isKept, bothFit};
 ghost use Rattle.fields.specs.Fronts.{isCount, bareRuleBy, isBare, ruleBy};
 
 // The value length of a row that marks a key origin.
-const ORIGIN: usize = 0;
+const ORIGIN: u8 = 0;
 
 // The sized types, in the order of the definition: first those asked whatever the key data, then those
 // asked only of keys without data.
@@ -187,11 +187,11 @@ fn is_row(row: SizedType, kind: u8, key_type: u8) -> bool
 }
 
 // A value has the length that a row asks.
-fn value_fits(asked: usize, value_len: usize) -> bool
+fn value_fits(asked: u8, value_len: usize) -> bool
     ensures { λ r. ⌜ r ≡ valueFits asked «value_len» ⌝ }
 {
     if asked != ORIGIN {
-        return value_len == asked;
+        return value_len == asked as usize;
     }
     if 4 <= value_len {
         value_len % 4 == 0
@@ -211,7 +211,7 @@ fn is_kept(row: SizedType, key_data_len: usize) -> bool
 fn both_fit(row: SizedType, key_data_len: usize, value_len: usize) -> bool
     ensures { λ r. ⌜ r ≡ bothFit row «key_data_len» «value_len» ⌝ }
 {
-    if key_data_len == row.dlen {
+    if key_data_len == row.dlen as usize {
         value_fits(row.vlen, value_len)
     } else {
         false
@@ -232,19 +232,32 @@ fn row_rule(row: SizedType, key_data_len: usize, value_len: usize) -> Ruled
     }
 }
 
-// What the table says of a pair's lengths.
-pub fn check_sizes(kind: u8, key_type: u8, key_data_len: usize, value_len: usize) -> Ruled
-    ensures { λ r. ⌜ r ≡ sizes kind «key_type» «key_data_len» «value_len» ⌝ }
+// What rows say of a pair's lengths: the first that is about its type decides.
+fn sizes_in(
+    rows: [SizedType; 19],
+    kind: u8,
+    key_type: u8,
+    key_data_len: usize,
+    value_len: usize,
+) -> Ruled
+    ensures { λ r. ⌜ r ≡ sizesIn rows kind «key_type» «key_data_len» «value_len» ⌝ }
 {
     let mut i: usize = 0;
-    while i < SIZED_TYPES.len() {
-        let row = SIZED_TYPES[i];
+    while i < rows.len() {
+        let row = rows[i];
         if is_row(row, kind, key_type) {
             return row_rule(row, key_data_len, value_len);
         }
         i = i + 1;
     }
     Ruled::Passed
+}
+
+// What the table says of a pair's lengths.
+pub fn check_sizes(kind: u8, key_type: u8, key_data_len: usize, value_len: usize) -> Ruled
+    ensures { λ r. ⌜ r ≡ sizes kind «key_type» «key_data_len» «value_len» ⌝ }
+{
+    sizes_in(SIZED_TYPES, kind, key_type, key_data_len, value_len)
 }
 
 // A type whose value is a count, in a global key without data.

@@ -214,8 +214,8 @@ pub enum Ruled {
 pub struct SizedType {
     pub kind: u8,
     pub tag: u8,
-    pub dlen: usize,
-    pub vlen: usize,
+    pub dlen: u8,
+    pub vlen: u8,
     pub bare: bool,
 }
 
