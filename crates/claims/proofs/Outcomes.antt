@@ -9,20 +9,21 @@ use Rattle.format.specs.Parse.{ParseOut, parsed}
 use Rattle.format.specs.Parse as R
 use Rattle.format.specs.Scripts.{SetOut, setOut, flat, setScripts}
 use Rattle.format.specs.Tables.{held, heldInput, heldOutput, view}
-use Rattle.format.specs.Told.{Told, toldLeft, toldListing, toldLock, toldLooked, toldNth, toldNumbered, toldParse, toldParsed, toldSet, toldSetOut, toldTx, toldTxOut, toldUtxo, toldWith}
-use Rattle.format.specs.Transaction.{TxOut, txOut, lockDecided, unsignedTx}
+use Rattle.format.specs.Told.{Told, toldLeft, toldListing, toldLock, toldLooked, toldNth, toldNumbered, toldParse, toldParsed, toldScript, toldSet, toldSetOut, toldTx, toldTxOut, toldUtxo, toldWith}
+use Rattle.format.specs.Transaction.{TxOut, txOut, lockDecided, outputScript, scriptPart, unsignedTx}
 use Rattle.format.specs.declared.Listing.{Listing}
 use Rattle.format.specs.declared.Lock.{Lock}
 use Rattle.format.specs.declared.Looked.{Looked}
 use Rattle.format.specs.declared.Nth.{Nth}
 use Rattle.format.specs.declared.Numbered.{Numbered}
+use Rattle.format.specs.declared.OutputScript.{OutputScript}
 use Rattle.format.specs.declared.Parsed.{Parsed}
 use Rattle.format.specs.declared.Psbt.{Psbt}
 use Rattle.format.specs.declared.ScriptsSet.{ScriptsSet}
 use Rattle.format.specs.declared.State.{State}
 use Rattle.format.specs.declared.UnsignedTx.{UnsignedTx}
 use Rattle.format.specs.declared.Utxo.{Utxo}
-use Rattle.format.proofs.Told.{looked-one, numbered-one, listing-one, nth-one, utxo-one, lock-one, parse-out-one, set-out-one, tx-out-one}
+use Rattle.format.proofs.Told.{looked-one, numbered-one, listing-one, nth-one, utxo-one, lock-one, script-one, parse-out-one, set-out-one, tx-out-one}
 use Rattle.claims.specs.Outcomes.{One, OneWith, OneWithBoth}
 
 -- a law for each kind of answer: what is told of it tells it apart
@@ -43,6 +44,9 @@ one-utxo d a b p q = utxo-one a b (p ∙ sym q)
 
 one-lock : (d : Told) → One (λ (r : Lock). toldLock r ≡ d)
 one-lock d a b p q = lock-one a b (p ∙ sym q)
+
+one-script : (d : Told) → One (λ (r : OutputScript). toldScript r ≡ d)
+one-script d a b p q = script-one a b (p ∙ sym q)
 
 one-part : (d : List ℕ) → One (λ r. r ≡ d)
 one-part d a b p q = p ∙ sym q
@@ -72,6 +76,12 @@ module _ (file pairs maps : List ℕ) (psbt : Psbt) where
 
   pub one-outcome-set-sp-output-scripts : (list buffer : List ℕ) (state : State) (scripts : List ℕ) → OneWith (λ r scripts₁. toldLeft (toldSet r) scripts₁ ≡ toldSetOut (setScripts (view file pairs maps psbt) psbt (flat list) buffer state scripts))
   one-outcome-set-sp-output-scripts list buffer state scripts = one-set _
+
+  pub one-outcome-output-script : (state : State) (scripts : List ℕ) (i : ℕ) → One (λ r. toldScript r ≡ toldScript (outputScript file state scripts i (heldOutput file pairs maps psbt i)))
+  one-outcome-output-script state scripts i = one-script _
+
+  pub one-outcome-output-script-part : (state : State) (scripts : List ℕ) (i : ℕ) → One (λ r. r ≡ scriptPart file scripts (outputScript file state scripts i (heldOutput file pairs maps psbt i)))
+  one-outcome-output-script-part state scripts i = one-part _
 
   pub one-outcome-unsigned-tx : (state : State) (scripts out : List ℕ) → OneWith (λ r out₁. toldLeft (toldTx r) out₁ ≡ toldTxOut (unsignedTx (view file pairs maps psbt) psbt state scripts out))
   one-outcome-unsigned-tx state scripts out = one-tx _

@@ -11,7 +11,7 @@ use Rattle.format.specs.Tests.{pick}
 use Rattle.format.specs.Parse.{ParseOut, out}
 use Rattle.format.specs.Scripts.{SetOut, setOut}
 use Rattle.format.specs.Transaction.{TxOut, txOut}
-use Rattle.format.specs.Told.{Value, none, int, flag, Told, told, nat, maybeValue, toldParsed, toldLooked, toldNumbered, toldListing, toldNth, toldUtxo, toldLock, toldSet, toldTx, ToldParse, toldWith, toldParse, ToldOut, toldLeft, toldSetOut, toldTxOut}
+use Rattle.format.specs.Told.{Value, none, int, flag, Told, told, nat, maybeValue, toldParsed, toldLooked, toldNumbered, toldListing, toldNth, toldUtxo, toldLock, toldSet, toldTx, toldScript, ToldParse, toldWith, toldParse, ToldOut, toldLeft, toldSetOut, toldTxOut}
 use Rattle.format.specs.declared.PsbtError.{PsbtError}
 use Rattle.format.specs.declared.PsbtError.the-variants.{InvalidMagic, UnexpectedEof, InvalidCompactSize, MapTerminatorMissing, DuplicateKey, UnsortedKeys, BadValue, MissingCounts, MissingOutputIndex, MissingRedeemScript, MissingWitnessScript, CountsTooLarge, NotAllowed, OutOfRange, UnknownOutputType, Unsupported, MissingOutputScript, InvalidSilentPayment, InvalidOutputScripts, InvalidSighashType, TooLong, PairsFull, MapsFull, BadIndex, NoRoom}
 use Rattle.format.specs.declared.Ruled.{Ruled}
@@ -36,6 +36,8 @@ use Rattle.format.specs.declared.ScriptsSet.{ScriptsSet}
 use Rattle.format.specs.declared.ScriptsSet.the-variants as S
 use Rattle.format.specs.declared.UnsignedTx.{UnsignedTx}
 use Rattle.format.specs.declared.UnsignedTx.the-variants as X
+use Rattle.format.specs.declared.OutputScript.{OutputScript}
+use Rattle.format.specs.declared.OutputScript.the-variants as O
 
 -- the refusal of a number, 0 for none
 errors : List Ruled
@@ -226,6 +228,24 @@ tx-of (X.Written n t) = refl
 
 pub tx-one : (a b : UnsignedTx) → toldTx a ≡ toldTx b → a ≡ b
 tx-one = known-by toldTx txOf tx-of
+
+scriptBy : Ruled → List Value → OutputScript
+scriptBy (Refused e) vs = O.Refused e
+scriptBy Passed vs =
+    pick (eqb (length vs) 0) O.Absent (pick (eqb (natAt vs 0) 0) (O.InFile (natAt vs 1) (natAt vs 2)) (O.InTable (natAt vs 1) (natAt vs 2)))
+
+scriptOf : Told → OutputScript
+scriptOf (told n vs) = scriptBy (errorOf n) vs
+
+script-of : (a : OutputScript) → scriptOf (toldScript a) ≡ a
+unfolding toldScript scriptOf scriptBy errorOf errors intOf natOf flagOf intAt natAt flagAt
+script-of (O.Refused e) = rw (error-of e)
+script-of O.Absent = refl
+script-of (O.InFile s n) = refl
+script-of (O.InTable s n) = refl
+
+pub script-one : (a b : OutputScript) → toldScript a ≡ toldScript b → a ≡ b
+script-one = known-by toldScript scriptOf script-of
 
 lockRule : PsbtError → List Value → Lock
 lockRule e [] = D.Refused e

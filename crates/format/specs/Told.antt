@@ -28,6 +28,8 @@ use Rattle.format.specs.declared.ScriptsSet.{ScriptsSet}
 use Rattle.format.specs.declared.ScriptsSet.the-variants as S
 use Rattle.format.specs.declared.UnsignedTx.{UnsignedTx}
 use Rattle.format.specs.declared.UnsignedTx.the-variants as X
+use Rattle.format.specs.declared.OutputScript.{OutputScript}
+use Rattle.format.specs.declared.OutputScript.the-variants as O
 
 -- a value: none, a number, or a yes or no
 pub data Value : Type 0 where
@@ -102,6 +104,13 @@ toldSet (S.Done t) = told 0 (flag (t .set) ∷ flag (t .written) ∷ [])
 unfoldable pub toldTx : UnsignedTx → Told
 toldTx (X.Refused e) = told (numberOf e) []
 toldTx (X.Written n t) = told 0 (nat n ∷ flag (t .set) ∷ flag (t .written) ∷ [])
+
+-- of an output's script: 0 in the file, 1 in the script table, start and length
+unfoldable pub toldScript : OutputScript → Told
+toldScript (O.Refused e) = told (numberOf e) []
+toldScript O.Absent = told 0 []
+toldScript (O.InFile s n) = told 0 (nat 0 ∷ nat s ∷ nat n ∷ [])
+toldScript (O.InTable s n) = told 0 (nat 1 ∷ nat s ∷ nat n ∷ [])
 
 -- an answer as told, with lent memory as it is left: two tables of a parse; the script table; the buffer
 pub data ToldParse : Type 0 where

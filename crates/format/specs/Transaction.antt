@@ -1,23 +1,29 @@
 -- The unsigned transaction.
-use Prim.Native.Nat.{ℕ, _+_}
+use Prim.Native.Nat.{ℕ, _+_, _*_}
 use mathlib.Core.Bool.{Bool, true, false, _&&_}
-use mathlib.Core.List.{List, [], _∷_, _++_}
+use mathlib.Core.List.{List, [], _∷_, _++_, map}
 use lib.ListN.{length, take, drop, replicate}
 use lib.Dec.{leb, eqb}
 use Rattle.format.specs.Tests.{pick}
 use Rattle.format.specs.Numbers.{bytesOf, unsigned}
 use Rattle.format.specs.Compact.{shortest}
-use Rattle.format.specs.Keys.{same}
+use Rattle.format.specs.Keys.{same, keyOf}
 use Rattle.format.specs.Content.{Found, absent, found}
-use Rattle.format.specs.Tables.{View}
+use Rattle.format.specs.Entries.{shown}
+use Rattle.format.specs.Tables.{View, Held, no, holds}
+use Rattle.format.specs.Lookups.{place}
 use Rattle.format.specs.Locks.{Sized, missing, misfit, is, In, Locked, unlocked, locked, decide, lockOf}
-use Rattle.format.specs.Scripts.{Out, Reported, unfitMap, reports, reported, scriptEntry, taproot}
+use Rattle.format.specs.Scripts.{Out, outOf, Reported, unfitMap, reports, reported, scriptEntry, taproot}
 use Rattle.format.specs.declared.PsbtError.{PsbtError}
 use Rattle.format.specs.declared.PsbtError.the-variants.{BadValue, MissingOutputScript, BadIndex, NoRoom}
 use Rattle.format.specs.declared.Psbt.{Psbt}
 use Rattle.format.specs.declared.State.{State}
 use Rattle.format.specs.declared.Lock.{Lock}
 use Rattle.format.specs.declared.Lock.the-variants as L
+use Rattle.format.specs.declared.Looked.{Looked}
+use Rattle.format.specs.declared.Looked.the-variants as K
+use Rattle.format.specs.declared.OutputScript.{OutputScript}
+use Rattle.format.specs.declared.OutputScript.the-variants as O
 use Rattle.format.specs.declared.UnsignedTx.{UnsignedTx}
 use Rattle.format.specs.declared.UnsignedTx.the-variants.{Refused, Written}
 
@@ -139,3 +145,22 @@ lockBy s (reports ins outs) = decide (s .«fallback_locktime») ins
 -- of what maps show
 unfoldable pub lockDecided : (ℕ → View) → Psbt → Lock
 lockDecided v s = lockBy s (reported v s)
+
+-- where the script of output number i stands: 04 where it was found, else the one set, behind the first byte of its entry
+unfoldable pub scriptPlace : State → ℕ → Looked → OutputScript
+scriptPlace t i (K.Refused e) = O.Refused e
+scriptPlace t i (K.At s n) = O.InFile s n
+scriptPlace t i K.Absent = pick (t .set) (O.InTable (i * scriptEntry + 1) 34) O.Absent
+
+-- the script of output number i as a call of its own: its map's refusal, then its entry of the script table, then the place
+unfoldable pub outputScript : List ℕ → State → List ℕ → ℕ → Held → OutputScript
+outputScript f t T i (no e) = O.Refused e
+outputScript f t T i (holds es) =
+    pick (tableFits t (outOf (map (shown f) es) ∷ []) (drop (i * scriptEntry) T)) (scriptPlace t i (place f (keyOf 0x04 []) es)) (O.Refused BadIndex)
+
+-- the part that stands there, of the file or of the script table: empty for absence and refusal
+unfoldable pub scriptPart : List ℕ → List ℕ → OutputScript → List ℕ
+scriptPart f T (O.Refused e) = []
+scriptPart f T O.Absent = []
+scriptPart f T (O.InFile s n) = take n (drop s f)
+scriptPart f T (O.InTable s n) = take n (drop s T)

@@ -336,3 +336,11 @@ pub enum UnsignedTx {
     Refused(PsbtError),
     Written { len: usize, state: State },
 }
+
+// Where an output's script stands: in the file or in the script table, that there is none, or the refusal.
+pub enum OutputScript {
+    Refused(PsbtError),
+    Absent,
+    InFile { start: usize, len: usize },
+    InTable { start: usize, len: usize },
+}

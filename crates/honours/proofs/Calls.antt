@@ -92,12 +92,12 @@ unfolding viewOf
 view-bytes-by f (no e) ps h q = let z : _≡_ {A = ℕ} 0 1 = cc in absurd (omega arith)
 view-bytes-by f (holds es) ps h q = let e : map (shown f) es ≡ ps = cc in subst ByteValues e (shown-bytes f es h)
 
-view-bytes : (f P M : List ℕ) (s : Psbt) → All Byte f → ShowsBytes (view f P M s)
+pub view-bytes : (f P M : List ℕ) (s : Psbt) → All Byte f → ShowsBytes (view f P M s)
 unfolding view
 view-bytes f P M s h m ps q = view-bytes-by f (held f P M s m) ps h q
 
 -- a call that writes wrote the transaction's bytes
-written-is : (t t′ : State) (B B′ : List ℕ) (n : ℕ) (x : Tx) → written t B x ≡ txOut (Written n t′) B′ → x ≡ writes (take n B′)
+pub written-is : (t t′ : State) (B B′ : List ℕ) (n : ℕ) (x : Tx) → written t B x ≡ txOut (Written n t′) B′ → x ≡ writes (take n B′)
 unfolding written
 written-is t t′ B B′ n (refuses e) = λ q. let z : _≡_ {A = ℕ} 0 1 = cc in absurd (omega arith)
 written-is t t′ B B′ n (writes x) =

@@ -8,6 +8,7 @@ use Rattle.format.specs.Numbers.{le}
 use Rattle.format.specs.Content.{Pair}
 use Rattle.format.specs.Tables.{View, shows}
 use Rattle.format.specs.Locks.{Sized, missing, misfit, is, In, threshold, isMisfit, orZero}
+use Rattle.format.specs.Scripts.{Reported, unfitMap, reports}
 use Rattle.format.specs.declared.Maybe.{Maybe}
 use Rattle.format.specs.declared.Lock.{Lock}
 use Rattle.format.specs.declared.Lock.the-variants.{Refused, Height, Time, Fallback, BothKinds, HeightTooGreat, TimeTooSmall, Malformed}
@@ -93,3 +94,13 @@ Says fallback ins (BothKinds i j) = WellFormed ins × ((h : ℕ) × AskedAt Asks
 Says fallback ins (HeightTooGreat n i) = WellFormed ins × Greatest AsksHeight AsksTime n i ins × (threshold ≤ n)
 Says fallback ins (TimeTooSmall n i) = WellFormed ins × Greatest AsksTime AsksHeight n i ins × (n < threshold)
 Says fallback ins (Malformed i) = (x : In) × At ins i x × IsMalformed x
+
+-- maps that report inputs, each of which lock n meets and so honours
+abbrev pub AllHonoured : ℕ → Reported → Type 0
+AllHonoured n (unfitMap e) = ⊥
+AllHonoured n (reports ins outs) = All (Meets n) ins × All (Honours n) ins
+
+-- maps that report a time asked for, and no time that is not below the threshold: the greatest time is too small
+abbrev pub FallenClock : Reported → Type 0
+FallenClock (unfitMap e) = ⊥
+FallenClock (reports ins outs) = ((t : ℕ) × (i : ℕ) × AskedAt AsksTime t i ins) × EachAsked AsksTime (λ t. t < threshold) ins

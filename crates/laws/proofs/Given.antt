@@ -1,7 +1,7 @@
 -- The refusals 4, 9 to 12, 15, 16 and 20 are never given: not by a parse, a lookup, the setter or the transaction, whatever the file and the tables.
 use mathlib.Core.Path.{_≡_, refl}
 use mathlib.Core.Bool.{Bool, true, not, _&&_}
-use mathlib.Core.List.{List, [], _∷_, _++_}
+use mathlib.Core.List.{List, [], _∷_, _++_, map}
 use Prim.Native.Nat.{ℕ, zero, suc, _+_, _-_, _*_, _/_}
 use lib.Dec.{leb, ltb, eqb}
 use lib.ListN.{length, take, drop, getD}
@@ -10,14 +10,14 @@ use Rattle.format.specs.Rules.{span, within}
 use Rattle.format.specs.Keys.{keyOf, same}
 use Rattle.format.specs.Content.{magic, Found, absent, found}
 use Rattle.format.specs.Reading.{Reading, done, refusal, begins, pair, ended, events}
-use Rattle.format.specs.Entries.{pairWords, mapWords, hasRoom, putPair, putMap, pairEntries, mapEntries, entryOf, width, keyIn}
+use Rattle.format.specs.Entries.{pairWords, mapWords, hasRoom, putPair, putMap, pairEntries, mapEntries, entryOf, width, keyIn, shown}
 use Rattle.format.specs.Parse.{ParseOut, out, cut, parsed}
 use Rattle.format.specs.Tables.{fit, Held, no, holds, fitted, heldBy, mapsReported, held, heldInput, heldOutput, View, hides, shows, viewOf, view, Gathered, unfit, gathered, gatherBy, gather}
 use Rattle.format.specs.Lookups.{place, Length, anyLength, keyList, exactly, lengthFits, ofLength, asked, look, numberAt, list, nthOf, nth}
 use Rattle.format.specs.Fields.{partField, numberField, witnessUtxo, scanLookup, musigLookup, inputParticipants, outputParticipants, participantCount, participant, utxoOf, utxoBy, getWitnessUtxo}
 use Rattle.format.specs.Locks.{Sized, missing, misfit, is, In, Asked, heights, times, misfits, threshold, greatest, heightLock, timeLock, decideBy, wellFormed, decide, Locked, unlocked, locked, lockOf}
-use Rattle.format.specs.Scripts.{Out, Reported, unfitMap, reports, reportedBy, reported, Given, whole, cutShort, scriptEntry, rightFor, settable, setOut, setTable, setGiven, setBy, setScripts}
-use Rattle.format.specs.Transaction.{tableFits, setSoFar, scriptOf, Tx, refuses, writes, ahead, needs, orFinal, inputThen, inputsThen, needsScript, outputThen, outputsThen, txWith, txBy, transaction, txReported, txOut, written, unsignedTx, lockBy, lockDecided}
+use Rattle.format.specs.Scripts.{Out, outOf, Reported, unfitMap, reports, reportedBy, reported, Given, whole, cutShort, scriptEntry, rightFor, settable, setOut, setTable, setGiven, setBy, setScripts}
+use Rattle.format.specs.Transaction.{tableFits, setSoFar, scriptOf, Tx, refuses, writes, ahead, needs, orFinal, inputThen, inputsThen, needsScript, outputThen, outputsThen, txWith, txBy, transaction, txReported, txOut, written, unsignedTx, lockBy, lockDecided, scriptPlace, outputScript}
 use Rattle.format.specs.declared.PsbtError.{PsbtError}
 use Rattle.format.specs.declared.PsbtError.the-variants.{BadValue, OutOfRange, MissingOutputScript, InvalidOutputScripts, PairsFull, MapsFull, BadIndex, NoRoom}
 use Rattle.format.specs.declared.Maybe.{Maybe}
@@ -36,6 +36,7 @@ use Rattle.format.specs.declared.Lock.the-variants as W
 use Rattle.format.specs.declared.State.{State}
 use Rattle.format.specs.declared.ScriptsSet.the-variants as S
 use Rattle.format.specs.declared.UnsignedTx.the-variants as X
+use Rattle.format.specs.declared.OutputScript.the-variants as O
 use Rattle.format.proofs.Tests.{pick-by, and-left}
 use Rattle.laws.specs.Given.{given, ofFile, Gives}
 use Rattle.laws.proofs.Orderly.{Orderly, events-orderly}
@@ -338,6 +339,19 @@ lock-by-gives s (unfitMap x) k = λ e q. cc (k x refl)
 lock-by-gives s (reports ins outs) k = decide-gives (s .«fallback_locktime») ins
 
 -- the calls on all reported maps
+script-place-gives : (t : State) (i : ℕ) (o : Looked) → Gives Refused o → Gives O.Refused (scriptPlace t i o)
+unfolding scriptPlace
+script-place-gives t i (Refused x) g = λ e q. cc (g x refl)
+script-place-gives t i Absent g = pick-by (Gives O.Refused) (t .set) _ _ (λ w e q. cc) (λ w e q. cc)
+script-place-gives t i (At s n) g = λ e q. cc
+
+held-script-gives : (f : List ℕ) (t : State) (T : List ℕ) (i : ℕ) (h : Held) → Gives no h → Gives O.Refused (outputScript f t T i h)
+unfolding outputScript
+held-script-gives f t T i (no x) g = λ e q. cc (g x refl)
+held-script-gives f t T i (holds es) g =
+    pick-by (Gives O.Refused) (tableFits t (outOf (map (shown f) es) ∷ []) (drop (i * scriptEntry) T)) _ _
+    (λ w. script-place-gives t i (place f (keyOf 0x04 []) es) (place-gives f (keyOf 0x04 []) es)) (λ w e q. cc bad-index)
+
 module _ (f P M : List ℕ) (s : Psbt) where
   reported-gives : Gives unfitMap (reported (view f P M s) s)
   unfolding reported
@@ -354,3 +368,6 @@ module _ (f P M : List ℕ) (s : Psbt) where
   pub lock-decided-gives : Gives W.Refused (lockDecided (view f P M s) s)
   unfolding lockDecided
   lock-decided-gives = lock-by-gives s (reported (view f P M s) s) reported-gives
+
+  pub output-script-gives : (t : State) (T : List ℕ) (i : ℕ) → Gives O.Refused (outputScript f t T i (heldOutput f P M s i))
+  output-script-gives t T i = held-script-gives f t T i (heldOutput f P M s i) (output-gives f P M s i)

@@ -10,7 +10,9 @@ use lib.Dec.{eqb}
 use lib.ListN.{length, getD, take, drop, replicate, length-drop, drop-of-length-le}
 use lib.Seq.{take-all, take-nil}
 use Rattle.format.specs.Keys.{order, isSame, same}
+use Rattle.format.specs.Content.{Found, absent, found, present}
 use Rattle.format.specs.Scripts.{scriptEntry, taproot}
+use Rattle.format.specs.Transaction.{entryFits}
 use Rattle.format.specs.declared.Order.{Order}
 use Rattle.format.proofs.Tests.{no-by}
 use Rattle.format.proofs.Keys.{same-is, same-self}
@@ -102,3 +104,10 @@ module _ (b : Bool) (e : List ℕ) (r : Bool) where
   fits-filled h q = rw h q
 
 pub ruleset fits = (fits-blank, fits-filled)
+
+-- this is what the definition says of an output with a script, or without
+pub fits-is : (y : Found) (e : List ℕ) → entryFits y e ≡ fitsBy (present y) e
+unfolding entryFits fitsBy present blank filled
+fits-is absent [] = refl
+fits-is absent (b ∷ e) = refl
+fits-is (found v) e = refl

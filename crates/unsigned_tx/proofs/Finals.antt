@@ -13,7 +13,7 @@ use mir.Facts.{toZ-ofZ}
 use Rattle.format.specs.Tests.{pick, every}
 use Rattle.format.specs.Numbers.{bytesOf, unsigned}
 use Rattle.format.specs.Compact.{shortest}
-use Rattle.format.specs.Content.{Found, absent, found, present, field}
+use Rattle.format.specs.Content.{present, field}
 use Rattle.format.specs.Entries.{shown}
 use Rattle.format.specs.Tables.{view, gather, mapsReported}
 use Rattle.format.specs.Locks.{In, inOf, lockOf, decide}
@@ -31,12 +31,13 @@ use Rattle.format.specs.declared.Ruled.the-variants as R
 use Rattle.format.specs.declared.UnsignedTx.{UnsignedTx}
 use Rattle.format.specs.declared.UnsignedTx.the-variants as U
 use Rattle.format.proofs.Numbers.{All}
-use Rattle.format.proofs.Told.{lock-one, tx-out-one}
+use Rattle.format.proofs.Told.{lock-one}
 use Rattle.entries.specs.Words.{pairCount, mapAt}
 use Rattle.lookup.specs.Fits.{entriesOf}
 use Rattle.writer.specs.Writes.{wrote, sizeLength}
 use Rattle.writer.proofs.Writes.{length-wrote, wrote-long, wrote-front}
-use Rattle.scripts.specs.Tables.{entryAt, blank, filled, fitsBy}
+use Rattle.scripts.specs.Tables.{entryAt, fitsBy}
+use Rattle.scripts.proofs.Tables.{fits-is}
 use Rattle.all_maps.specs.Alls.{ruledBy, AllFit, pairsOf, inAt, outAt, from, insOf, outsOf}
 use Rattle.all_maps.specs.Places.{foundIn, fieldAt}
 use Rattle.all_maps.specs.declared.FoundAt.{FoundAt}
@@ -250,12 +251,6 @@ unfolding present foundIn isFound
 found-in f F.Missing = refl
 found-in f (F.At s n) = refl
 
-fits-is : (y : Found) (e : List ℕ) → entryFits y e ≡ fitsBy (present y) e
-unfolding entryFits fitsBy present blank filled
-fits-is absent [] = refl
-fits-is absent (b ∷ e) = refl
-fits-is (found v) e = refl
-
 -- judging entries from number i on gives what judging all gives
 pub record Judging (f P M : List ℕ) (s : Psbt) (T : List ℕ) (i : ℕ) : Type 0 where
   pub is : scriptsFit (from (outAt f P M s) i (s .outputs - i)) (drop (i * 35) T) ≡ scriptsFit (outsOf f P M s) T
@@ -347,10 +342,3 @@ unfolding toldTxOut
 told-tx x B o e = ap toldTxOut e
 
 pub ruleset public = (all-are, told-unfit, told-tx)
-
--- any two outcomes that meet the promise agree: answer and buffer
-pub one-tx : (f P M : List ℕ) (s : Psbt) (t : State) (T B : List ℕ) (x y : UnsignedTx) (B₁ B₂ : List ℕ)
-    → toldLeft (toldTx x) B₁ ≡ toldTxOut (unsignedTx (view f P M s) s t T B) → toldLeft (toldTx y) B₂ ≡ toldTxOut (unsignedTx (view f P M s) s t T B)
-    → (x ≡ y) × (B₁ ≡ B₂)
-unfolding toldTxOut
-one-tx f P M s t T B x y B₁ B₂ p q = let e : txOut x B₁ ≡ txOut y B₂ = tx-out-one (txOut x B₁) (txOut y B₂) (p ∙ sym q) in ((cc), (cc))
