@@ -29,6 +29,10 @@ unfolding lay
 lay-append s [] b = refl
 lay-append s (x ∷ a) b = lay-append (layByte s x) a b
 
+-- the same, where the buffer between them is known by equations
+pub lay-then : (s t u : Spot) (a b : List ℕ) → t ≡ lay s a → u ≡ lay t b → u ≡ lay s (a ++ b)
+lay-then s t u a b e f = f ∙ ap (λ (x : Spot). lay x b) e ∙ lay-append s a b
+
 -- where there is room, the text stands in the buffer, and the place is behind it
 pub lay-whole : (at : ℕ) (D S : List ℕ) → at + length S ≤ length D → lay (spot at D) S ≡ spot (at + length S) (wrote D at S)
 unfolding lay layByte wrote

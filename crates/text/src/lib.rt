@@ -38,7 +38,7 @@ fn digit(d: u8) -> u8
 }
 
 // A byte in two hex digits, the higher first.
-fn put_hex_byte(out: &mut [u8], at: usize, byte: u8) -> usize
+pub fn put_hex_byte(out: &mut [u8], at: usize, byte: u8) -> usize
     ensures { λ r. ⌜ spot r (now (out .exit)) ≡ lay (spot at (now (out .entry))) (hexByte byte) ⌝ }
 {
     let to = put_byte(out, at, digit(byte / 16));
