@@ -1,20 +1,20 @@
 -- The dump of an accepted file is its content's text, and of a refused one its number, where the tables have the room.
 use mathlib.Core.Path.{_≡_, refl, sym, _∙_, ap, ap₂}
 use mathlib.Core.List.{List, [], _∷_, _++_, map}
-use Prim.Native.Nat.{ℕ, suc, _+_, _*_, _≤_}
+use Prim.Native.Nat.{ℕ, suc, _+_, _≤_}
 use native.Mathlib.Nat.{add-zero, zero-add}
 use native.Mathlib.Omega.{arith}
 use borrow.Author.Tests.{le-ltb}
 use lib.ListN.{length, length-replicate, length-map}
 use Rattle.format.specs.Content.{Pair, Map, Content, mapsOf, psbtOf}
 use Rattle.format.specs.Reading.{accepted, refused, reading, events}
-use Rattle.format.specs.Tables.{View, shows, view, mapsReported}
+use Rattle.format.specs.Tables.{View, shows}
 use Rattle.format.specs.Parse.{ParseOut, out, parsed}
 use Rattle.format.specs.Transaction.{unsignedTx}
 use Rattle.format.specs.declared.PsbtError.{PsbtError}
-use Rattle.format.specs.declared.Psbt.{Psbt}
-use Rattle.laws.specs.Shown.{bare, viewBy, pairsIn, pairTable, mapTable, Room}
-use Rattle.laws.specs.Rooms.{Roomy, pairs#, begun#, ended#, answer, answerOf}
+use Rattle.format.specs.declared.Parsed.the-variants.{Refused}
+use Rattle.laws.specs.Shown.{bare, viewBy, pairsIn, Room}
+use Rattle.laws.specs.Rooms.{Roomy, pairs#, ended#, answer}
 use Rattle.laws.proofs.Files.{one-plus-counts}
 use Rattle.laws.proofs.Parsed.{parse-is}
 use Rattle.laws.proofs.Rooms.{room-refuses}
@@ -50,6 +50,15 @@ dump-accepted f c P M B e r =
     ∙ every-call f c P M e (λ v. acceptedText v (psbtOf (c .global .pairs)) B)
     ∙ ap (λ (l : List ℕ). headLine (psbtOf (c .global .pairs)) ++ (l ++ txLine (unsignedTx (λ n. viewBy n (mapsOf c)) (psbtOf (c .global .pairs)) fresh [] B)))
     (ap (mapsText (λ n. viewBy n (mapsOf c)) 0) (sym (one-plus-counts f c e)) ∙ lines-are (λ n. viewBy n (mapsOf c)) 0 (mapsOf c) (λ j. ap (λ (n : ℕ). viewBy n (mapsOf c)) (zero-add j)))
+
+-- a refused file, with room for what is read before the refusal
+refused-text : (B f : List ℕ) (o : ParseOut) (e : PsbtError) (p m : ℕ) → answer o ≡ Refused e p m → parsedText B f o ≡ refusedLine e
+unfolding answer parsedText
+refused-text B f (out r P M) e p m q = rw q
+
+pub dump-refused : (f : List ℕ) (e : PsbtError) (P M B : List ℕ) → reading f ≡ refused e → Roomy (events f) P M → dumpIn P M B f ≡ refusedLine e
+unfolding dumpIn
+dump-refused f e P M B q r = refused-text B f (parsed f P M) e (pairs# (events f)) (ended# (events f)) (room-refuses f P M e q r)
 
 -- and so of the dump's own rooms
 zeros-long : (n : ℕ) → length (zeros n) ≡ n

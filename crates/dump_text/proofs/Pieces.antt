@@ -1,6 +1,6 @@
 -- Laws of lines: pieces that were put one after the other are the line.
 use mathlib.Core.Path.{_≡_, refl, _∙_, ap, ap₂}
-use mathlib.Core.List.{List, [], _∷_, _++_}
+use mathlib.Core.List.{List, [], _∷_}
 use Prim.Native.Nat.{ℕ, _-_}
 use native.Mathlib.Omega.{arith}
 use lib.IntN.{ℤ}
@@ -10,7 +10,7 @@ use mir.Val.{SFits, toZ, ofZ}
 use mir.Facts.{toZ-ofZ}
 use Rattle.format.specs.Refusals.{numberOf}
 use Rattle.format.specs.Keys.{typeOf, dataOf}
-use Rattle.format.specs.Entries.{keyIn, valueIn, shown}
+use Rattle.format.specs.Entries.{shown}
 use Rattle.format.specs.Lookups.{part, keyPart, valuePart}
 use Rattle.format.specs.declared.PsbtError.{PsbtError}
 use Rattle.format.specs.declared.Psbt.{Psbt}
@@ -21,7 +21,7 @@ use Rattle.format.specs.declared.Nth.the-variants as N
 use Rattle.format.specs.declared.UnsignedTx.{UnsignedTx}
 use Rattle.format.specs.declared.UnsignedTx.the-variants.{Refused, Written}
 use Rattle.wire.proofs.Sizes.{part-rest}
-use Rattle.text.specs.Spots.{Spot, spot, lay}
+use Rattle.text.specs.Spots.{Spot, lay}
 use Rattle.text.specs.Spelled.{digit, hexByte, hexOrDash, decimal, signedDecimal}
 use Rattle.text.proofs.Lays.{lay-then}
 use Rattle.dump_text.specs.Lines.{sayRefused, sayPsbt, sayInputs, sayOutputs, sayMap, sayPairs, sayUnsigned, refusedLine, versionText, countsText, headLine, mapLine, keyText, pairText, pairLine, unsignedText, unsignedLine, space, newline}

@@ -1,7 +1,7 @@
 -- Laws of the walks: the lines that are left, put from here, give the whole.
 use mathlib.Core.Path.{_≡_, refl, sym, _∙_, ap}
 use mathlib.Core.Bool.{Bool, true, false}
-use mathlib.Core.List.{List, [], _∷_, _++_, map}
+use mathlib.Core.List.{List, _∷_, map}
 use Prim.Native.Nat.{ℕ, suc, _+_, _-_, _^_, _≤_, _<_}
 use native.Mathlib.Omega.{arith}
 use borrow.Author.Tests.{ltb-true, ltb-false}
@@ -10,14 +10,13 @@ use lib.ListN.{length, drop, length-map, length-drop}
 use lib.Seq.{length-take-le}
 use mir.Syntax.{w64}
 use mir.Val.{Fits}
-use Rattle.format.specs.Content.{Pair}
 use Rattle.format.specs.Entries.{pairEntries, shown}
-use Rattle.format.specs.Tables.{mapsReported, View, hides, shows, viewOf, view}
+use Rattle.format.specs.Tables.{mapsReported, View, viewOf, view}
 use Rattle.format.specs.declared.PsbtError.{PsbtError}
 use Rattle.format.specs.declared.PairEntry.{PairEntry}
 use Rattle.format.specs.declared.MapEntry.{MapEntry}
 use Rattle.format.specs.declared.Psbt.{Psbt}
-use Rattle.entries.specs.Words.{pairCount, mapCount, pairAt}
+use Rattle.entries.specs.Words.{pairCount, pairAt}
 use Rattle.entries.proofs.Tables.{map-count}
 use Rattle.lookup.specs.Fits.{run, entriesOf, heldOf, fitAt}
 use Rattle.lookup.specs.declared.Fit.{Fit}
@@ -26,7 +25,7 @@ use Rattle.lookup.proofs.Walks.{run-none, run-one, next-fits}
 use Rattle.lookup.proofs.Maps.{map-held, map-sound}
 use Rattle.all_maps.proofs.Gathers.{at-whole}
 use Rattle.text.specs.Spots.{Spot, spot, lay}
-use Rattle.text.proofs.Lays.{lay-append, lay-then}
+use Rattle.text.proofs.Lays.{lay-then}
 use Rattle.dump_text.specs.Lines.{mapLine, pairLine, pairsText, mapText, mapThen, mapsText}
 
 -- the lines of the n pairs from number i on, put from here, give those of all

@@ -1,12 +1,11 @@
 -- Laws of the whole text: by the parse's answer and by the transaction's.
 use mathlib.Core.Path.{_≡_, refl, sym, _∙_, ap}
-use mathlib.Core.Bool.{true, false}
-use mathlib.Core.List.{List, [], _++_}
+use mathlib.Core.List.{List, []}
 use Prim.Native.Nat.{ℕ, _≤_, _<_}
 use borrow.Author.Tests.{lt-ltb, le-ltb}
 use lib.ListN.{length, replicate, length-replicate}
 use Rattle.format.specs.Tables.{View, view, mapsReported}
-use Rattle.format.specs.Parse.{ParseOut, out, parsed}
+use Rattle.format.specs.Parse.{out, parsed}
 use Rattle.format.specs.Transaction.{TxOut, txOut, unsignedTx}
 use Rattle.format.specs.Told.{toldParsed, toldWith, toldParse, toldTx, toldLeft, toldTxOut}
 use Rattle.format.specs.declared.PsbtError.{PsbtError}
@@ -16,7 +15,7 @@ use Rattle.format.specs.declared.Parsed.{Parsed}
 use Rattle.format.specs.declared.Parsed.the-variants.{Accepted, Refused}
 use Rattle.format.specs.declared.UnsignedTx.{UnsignedTx}
 use Rattle.format.proofs.Told.{parse-out-one, tx-out-one}
-use Rattle.text.specs.Spots.{Spot, spot, lay}
+use Rattle.text.specs.Spots.{Spot, lay}
 use Rattle.text.proofs.Lays.{lay-then}
 use Rattle.dump_text.specs.Lines.{refusedLine, headLine, mapsText, unsignedLine}
 use Rattle.dump_text.specs.Dump.{zeros, fresh, txLine, acceptedText, parsedText, dumpIn, dump}

@@ -24,13 +24,11 @@ ghost use mathlib.Core.Path.{_≡_};
 ghost use mathlib.Core.List.{map};
 ghost use Prim.Native.Nat.{_+_, _≤_};
 ghost use lib.ListN.{length};
-ghost use Rattle.format.specs.Keys.{typeOf, dataOf};
 ghost use Rattle.format.specs.Entries.{shown};
 ghost use Rattle.format.specs.Tables.{view, mapsReported};
 ghost use Rattle.entries.specs.Words.{pairCount};
 ghost use Rattle.lookup.specs.Fits.{entriesOf};
 ghost use Rattle.text.specs.Spots.{spot, lay};
-ghost use Rattle.text.specs.Spelled.{hexByte, hexOrDash};
 ghost use Rattle.dump_text.specs.Lines.{refusedLine, versionText, countsText, headLine, mapLine, keyText, pairText, pairLine, pairsText, mapText, mapsText, unsignedLine};
 ghost use Rattle.dump_text.specs.Dump.{zeros, acceptedText, dumpIn, dump};
 

@@ -1,8 +1,7 @@
 -- Texts that the definitions give, computed.
-use Prim.Native.Nat.{ℕ}
 use mathlib.Core.Path.{_≡_, refl}
-use mathlib.Core.List.{List, [], _∷_, map}
-use lib.IntN.{ℤ, pos, negsuc}
+use mathlib.Core.List.{[], _∷_, map}
+use lib.IntN.{pos, negsuc}
 use Rattle.text.specs.Spots.{spot, layByte, lay}
 use Rattle.text.specs.Spelled.{digit, hexByte, hex, hexOrDash, decimalIn, decimal, signedDecimal}
 
