@@ -48,7 +48,7 @@ entry-usable f P m x =
     (λ q k. never BadIndex x k)
 
 module _ (f P M : List ℕ) (s : Psbt) (m : ℕ) (l : m < mapsReported s) where
-  at-whole : (x : MapEntry) → fitAt f P M s m ≡ Is x → Whole f P M m
+  pub at-whole : (x : MapEntry) → fitAt f P M s m ≡ Is x → Whole f P M m
   unfolding notListed
   at-whole x e = by (ltb m (mapCount M)) refl
     where

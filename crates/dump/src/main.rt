@@ -1,0 +1,6 @@
+// Reads a file from standard input and writes its dump to standard output.
+use dump_text::dump_input;
+
+fn main() {
+    dump_input(0, 1);
+}

@@ -1,0 +1,71 @@
+-- The dump of an accepted file is its content's text, and of a refused one its number, where the tables have the room.
+use mathlib.Core.Path.{_≡_, refl, sym, _∙_, ap, ap₂}
+use mathlib.Core.List.{List, [], _∷_, _++_, map}
+use Prim.Native.Nat.{ℕ, suc, _+_, _≤_}
+use native.Mathlib.Nat.{add-zero, zero-add}
+use native.Mathlib.Omega.{arith}
+use borrow.Author.Tests.{le-ltb}
+use lib.ListN.{length, length-replicate, length-map}
+use Rattle.format.specs.Content.{Pair, Map, Content, mapsOf, psbtOf}
+use Rattle.format.specs.Reading.{accepted, refused, reading, events}
+use Rattle.format.specs.Tables.{View, shows}
+use Rattle.format.specs.Parse.{ParseOut, out, parsed}
+use Rattle.format.specs.Transaction.{unsignedTx}
+use Rattle.format.specs.declared.PsbtError.{PsbtError}
+use Rattle.format.specs.declared.Parsed.the-variants.{Refused}
+use Rattle.laws.specs.Shown.{bare, viewBy, pairsIn, Room}
+use Rattle.laws.specs.Rooms.{Roomy, pairs#, ended#, answer}
+use Rattle.laws.proofs.Files.{one-plus-counts}
+use Rattle.laws.proofs.Parsed.{parse-is}
+use Rattle.laws.proofs.Rooms.{room-refuses}
+use Rattle.laws.proofs.Shown.{every-call}
+use Rattle.dump_text.specs.Lines.{refusedLine, headLine, mapLine, pairLine, pairsText, mapText, mapThen, mapsText}
+use Rattle.dump_text.specs.Dump.{zeros, fresh, txLine, acceptedText, parsedText, dumpIn, dump}
+use Rattle.dump_text.specs.Contents.{mapLines, contentText}
+
+-- a pair's line doesn't ask how its lengths are spelled
+bare-lines : (ps : List Pair) → pairsText (map bare ps) ≡ pairsText ps
+unfolding pairsText pairLine bare
+bare-lines [] = refl
+bare-lines (p ∷ ps) = ap (λ (l : List ℕ). pairLine p ++ l) (bare-lines ps)
+
+bare-text : (m : ℕ) (ps : List Pair) → mapText m (map bare ps) ≡ mapText m ps
+unfolding mapText
+bare-text m ps = ap₂ (λ (n : ℕ) (l : List ℕ). mapLine m n ++ l) (length-map ps bare) (bare-lines ps)
+
+-- maps that show a content's, from number k on
+lines-are : (v : ℕ → View) (k : ℕ) (ms : List Map) → ((j : ℕ) → v (k + j) ≡ viewBy j ms) → mapsText v k (length ms) ≡ mapLines k ms
+unfolding mapsText mapThen mapLines viewBy
+lines-are v k [] h = refl
+lines-are v k (x ∷ ms) h =
+    let e : v k ≡ shows (map bare (x .pairs)) = rw (add-zero k) at (h 0) in
+    let on : (j : ℕ) → v (k + 1 + j) ≡ viewBy j ms = λ j. (let q : k + 1 + j ≡ k + suc j = omega arith in ap v q ∙ h (suc j)) in
+    ap (λ (w : View). mapThen k w (mapsText v (k + 1) (length ms))) e ∙ ap₂ (λ (a b : List ℕ). a ++ b) (bare-text k (x .pairs)) (lines-are v (k + 1) ms on)
+
+-- whatever the rooms, as long as they hold the file's pairs and maps
+pub dump-accepted : (f : List ℕ) (c : Content) (P M B : List ℕ) → reading f ≡ accepted c → Room c P M → dumpIn P M B f ≡ contentText c B
+unfolding dumpIn parsedText acceptedText contentText
+dump-accepted f c P M B e r =
+    ap (parsedText B f) (parse-is f c P M e r)
+    ∙ every-call f c P M e (λ v. acceptedText v (psbtOf (c .global .pairs)) B)
+    ∙ ap (λ (l : List ℕ). headLine (psbtOf (c .global .pairs)) ++ (l ++ txLine (unsignedTx (λ n. viewBy n (mapsOf c)) (psbtOf (c .global .pairs)) fresh [] B)))
+    (ap (mapsText (λ n. viewBy n (mapsOf c)) 0) (sym (one-plus-counts f c e)) ∙ lines-are (λ n. viewBy n (mapsOf c)) 0 (mapsOf c) (λ j. ap (λ (n : ℕ). viewBy n (mapsOf c)) (zero-add j)))
+
+-- a refused file, with room for what is read before the refusal
+refused-text : (B f : List ℕ) (o : ParseOut) (e : PsbtError) (p m : ℕ) → answer o ≡ Refused e p m → parsedText B f o ≡ refusedLine e
+unfolding answer parsedText
+refused-text B f (out r P M) e p m q = rw q
+
+pub dump-refused : (f : List ℕ) (e : PsbtError) (P M B : List ℕ) → reading f ≡ refused e → Roomy (events f) P M → dumpIn P M B f ≡ refusedLine e
+unfolding dumpIn
+dump-refused f e P M B q r = refused-text B f (parsed f P M) e (pairs# (events f)) (ended# (events f)) (room-refuses f P M e q r)
+
+-- and so of the dump's own rooms
+zeros-long : (n : ℕ) → length (zeros n) ≡ n
+unfolding zeros
+zeros-long n = length-replicate n 0
+
+pub dump-is : (f : List ℕ) (c : Content) → reading f ≡ accepted c → length f ≤ 65536 → pairsIn (mapsOf c) ≤ 1024 → length (mapsOf c) ≤ 256 → dump f ≡ contentText c (zeros 65536)
+unfolding dump
+dump-is f c e h p m =
+    rw (le-ltb 65536 (length f) h) (dump-accepted f c (zeros 4096) (zeros 512) (zeros 65536) e (record { pairs = omega (arith, zeros-long 4096); maps = omega (arith, zeros-long 512) }))

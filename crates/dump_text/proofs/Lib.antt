@@ -1,0 +1,4 @@
+pub mod Pieces
+pub mod Walks
+pub mod Wholes
+pub mod Contents

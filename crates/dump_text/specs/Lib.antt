@@ -1,0 +1,4 @@
+pub mod Lines
+pub mod Dump
+pub mod Contents
+pub mod Examples
