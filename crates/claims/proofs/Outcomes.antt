@@ -77,12 +77,6 @@ module _ (file pairs maps : List ℕ) (psbt : Psbt) where
   pub one-outcome-set-sp-output-scripts : (list buffer : List ℕ) (state : State) (scripts : List ℕ) → OneWith (λ r scripts₁. toldLeft (toldSet r) scripts₁ ≡ toldSetOut (setScripts (view file pairs maps psbt) psbt (flat list) buffer state scripts))
   one-outcome-set-sp-output-scripts list buffer state scripts = one-set _
 
-  pub one-outcome-output-script : (state : State) (scripts : List ℕ) (i : ℕ) → One (λ r. toldScript r ≡ toldScript (outputScript file state scripts i (heldOutput file pairs maps psbt i)))
-  one-outcome-output-script state scripts i = one-script _
-
-  pub one-outcome-output-script-part : (state : State) (scripts : List ℕ) (i : ℕ) → One (λ r. r ≡ scriptPart file scripts (outputScript file state scripts i (heldOutput file pairs maps psbt i)))
-  one-outcome-output-script-part state scripts i = one-part _
-
   pub one-outcome-unsigned-tx : (state : State) (scripts out : List ℕ) → OneWith (λ r out₁. toldLeft (toldTx r) out₁ ≡ toldTxOut (unsignedTx (view file pairs maps psbt) psbt state scripts out))
   one-outcome-unsigned-tx state scripts out = one-tx _
 
@@ -233,3 +227,9 @@ module _ (file pairs maps : List ℕ) (psbt : Psbt) where
 
   pub one-outcome-output-get-musig2-participant : (i : ℕ) (aggregate : List ℕ) (n : ℕ) → One (λ r. toldLooked r ≡ toldLooked (participant n (outputParticipants file aggregate (heldOutput file pairs maps psbt i))))
   one-outcome-output-get-musig2-participant i aggregate n = one-looked _
+
+  pub one-outcome-output-output-script : (state : State) (scripts : List ℕ) (i : ℕ) → One (λ r. toldScript r ≡ toldScript (outputScript file state scripts i (heldOutput file pairs maps psbt i)))
+  one-outcome-output-output-script state scripts i = one-script _
+
+  pub one-outcome-output-output-script-part : (state : State) (scripts : List ℕ) (i : ℕ) → One (λ r. r ≡ scriptPart file scripts (outputScript file state scripts i (heldOutput file pairs maps psbt i)))
+  one-outcome-output-output-script-part state scripts i = one-part _

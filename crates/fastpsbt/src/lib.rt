@@ -5,7 +5,6 @@
 // reported. Refusals carry their numbers (`PsbtError::number`).
 use format::Lock;
 use format::Looked;
-use format::OutputScript;
 use format::Parsed;
 use format::Psbt;
 use format::ScriptsSet;
@@ -15,9 +14,9 @@ ghost use mathlib.Core.Path.{_≡_};
 ghost use Rattle.format.specs.Lookups.{part};
 ghost use Rattle.format.specs.Parse.{parsed};
 ghost use Rattle.format.specs.Scripts.{flat, setScripts};
-ghost use Rattle.format.specs.Tables.{heldOutput, view};
-ghost use Rattle.format.specs.Told.{toldLeft, toldLock, toldParse, toldParsed, toldScript, toldSet, toldSetOut, toldTx, toldTxOut, toldWith};
-ghost use Rattle.format.specs.Transaction.{lockDecided, outputScript, scriptPart, unsignedTx};
+ghost use Rattle.format.specs.Tables.{view};
+ghost use Rattle.format.specs.Told.{toldLeft, toldLock, toldParse, toldParsed, toldSet, toldSetOut, toldTx, toldTxOut, toldWith};
+ghost use Rattle.format.specs.Transaction.{lockDecided, unsignedTx};
 
 pub mod global;
 pub mod input;
@@ -62,36 +61,6 @@ pub fn set_sp_output_scripts(
     ensures { λ r. ⌜ toldLeft (toldSet r) (now (scripts .exit)) ≡ toldSetOut (setScripts (view (now (file .entry)) (now (pairs .entry)) (now (maps .entry)) psbt) psbt (flat (now (list .entry))) (now (buffer .entry)) state (now (scripts .entry))) ⌝ }
 {
     setter::set_sp_output_scripts(file, pairs, maps, psbt, list, buffer, state, scripts)
-}
-
-// Where the script of an output stands: in the file, or in the script table once scripts are set.
-pub fn output_script(
-    file: &[u8],
-    pairs: &[u32],
-    maps: &[u32],
-    psbt: Psbt,
-    state: State,
-    scripts: &[u8],
-    i: u64,
-) -> OutputScript
-    ensures { λ r. ⌜ toldScript r ≡ toldScript (outputScript (now (file .entry)) state (now (scripts .entry)) i (heldOutput (now (file .entry)) (now (pairs .entry)) (now (maps .entry)) psbt i)) ⌝ }
-{
-    output_script::output_script(file, pairs, maps, psbt, state, scripts, i)
-}
-
-// That script, as the part of the file or of the script table itself: empty for absence and refusal.
-pub fn output_script_part<'a>(
-    file: &'a [u8],
-    pairs: &[u32],
-    maps: &[u32],
-    psbt: Psbt,
-    state: State,
-    scripts: &'a [u8],
-    i: u64,
-) -> &'a [u8]
-    ensures { λ r. ⌜ now r ≡ scriptPart (now (file .entry)) (now (scripts .entry)) (outputScript (now (file .entry)) state (now (scripts .entry)) i (heldOutput (now (file .entry)) (now (pairs .entry)) (now (maps .entry)) psbt i)) ⌝ }
-{
-    output_script::output_script_part(file, pairs, maps, psbt, state, scripts, i)
 }
 
 // Writes the unsigned transaction from the front of `out` on, with the scripts set in `scripts` where `state` says that they are. It

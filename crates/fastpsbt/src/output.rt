@@ -2,12 +2,15 @@
 use format::Listing;
 use format::Looked;
 use format::Numbered;
+use format::OutputScript;
 use format::Psbt;
+use format::State;
 ghost use mathlib.Core.Path.{_≡_};
 ghost use Rattle.format.specs.Fields.{amount, outRedeemScript, outWitnessScript, outputParticipants, participant, participantCount, script, spV0Info, spV0Label};
 ghost use Rattle.format.specs.Lookups.{list};
 ghost use Rattle.format.specs.Tables.{heldOutput};
-ghost use Rattle.format.specs.Told.{toldListing, toldLooked, toldNumbered};
+ghost use Rattle.format.specs.Told.{toldListing, toldLooked, toldNumbered, toldScript};
+ghost use Rattle.format.specs.Transaction.{outputScript, scriptPart};
 
 // The redeem script.
 pub fn redeem_script(file: &[u8], pairs: &[u32], maps: &[u32], psbt: Psbt, i: u64) -> Looked
@@ -113,4 +116,34 @@ pub fn get_musig2_participant(
     ensures { λ r. ⌜ toldLooked r ≡ toldLooked (participant n (outputParticipants (now (file .entry)) (now (aggregate .entry)) (heldOutput (now (file .entry)) (now (pairs .entry)) (now (maps .entry)) psbt i))) ⌝ }
 {
     payments::output::get_musig2_participant(file, pairs, maps, psbt, i, aggregate, n)
+}
+
+// Where the script of an output stands: in the file, or in the script table once scripts are set.
+pub fn output_script(
+    file: &[u8],
+    pairs: &[u32],
+    maps: &[u32],
+    psbt: Psbt,
+    state: State,
+    scripts: &[u8],
+    i: u64,
+) -> OutputScript
+    ensures { λ r. ⌜ toldScript r ≡ toldScript (outputScript (now (file .entry)) state (now (scripts .entry)) i (heldOutput (now (file .entry)) (now (pairs .entry)) (now (maps .entry)) psbt i)) ⌝ }
+{
+    output_script::output_script(file, pairs, maps, psbt, state, scripts, i)
+}
+
+// That script, as the part of the file or of the script table itself: empty for absence and refusal.
+pub fn output_script_part<'a>(
+    file: &'a [u8],
+    pairs: &[u32],
+    maps: &[u32],
+    psbt: Psbt,
+    state: State,
+    scripts: &'a [u8],
+    i: u64,
+) -> &'a [u8]
+    ensures { λ r. ⌜ now r ≡ scriptPart (now (file .entry)) (now (scripts .entry)) (outputScript (now (file .entry)) state (now (scripts .entry)) i (heldOutput (now (file .entry)) (now (pairs .entry)) (now (maps .entry)) psbt i)) ⌝ }
+{
+    output_script::output_script_part(file, pairs, maps, psbt, state, scripts, i)
 }
