@@ -50,7 +50,7 @@ unfolding entryFor every
 entry-by buffer [] h = refl
 entry-by buffer (a ∷ xs) h = ap suc (sound-long buffer a (and-left (sound buffer a) (every (sound buffer) xs) h))
 
-named-sound : (buffer l : List ℕ) (i : ℕ) → Sound buffer l → every (sound buffer) (named i (records l)) ≡ true
+pub named-sound : (buffer l : List ℕ) (i : ℕ) → Sound buffer l → every (sound buffer) (named i (records l)) ≡ true
 unfolding named
 named-sound buffer l i k = every-only (sound buffer) (λ a. eqb (a .output) i) (records l) (k .all)
 
