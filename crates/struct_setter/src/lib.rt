@@ -327,3 +327,19 @@ pub fn set_sp_output_scripts(
     }
     answer_of(task)
 }
+
+// The same of two records that are passed by value. Proved by hand: whoever calls it needs no walk.
+pub fn set_two(
+    file: &[u8],
+    pairs: &[u32],
+    maps: &[u32],
+    psbt: Psbt,
+    list: [Assignment; 2],
+    buffer: &[u8],
+    state: State,
+    scripts: &mut [u8],
+) -> ScriptsSet
+    ensures { λ r. ⌜ toldLeft (toldSet r) (now (scripts .exit)) ≡ toldSetOut (setScripts (view (now (file .entry)) (now (pairs .entry)) (now (maps .entry)) psbt) psbt (whole list) (now (buffer .entry)) state (now (scripts .entry))) ⌝ }
+{
+    set_sp_output_scripts(file, pairs, maps, psbt, &list, buffer, state, scripts)
+}
