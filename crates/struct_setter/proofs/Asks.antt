@@ -1,6 +1,6 @@
 -- Laws of what is asked and done turn by turn, one for each way through the functions.
-use mathlib.Core.Path.{_≡_, refl, sym, _∙_, ap}
-use mathlib.Core.Bool.{Bool, true, false, not, _&&_}
+use mathlib.Core.Path.{_≡_, sym, _∙_}
+use mathlib.Core.Bool.{Bool, true, false, not}
 use mathlib.Core.List.{List, _∷_}
 use Prim.Native.Nat.{ℕ, _+_, _*_, _/_, _^_, _≤_, _<_}
 use native.Mathlib.Omega.{arith}
@@ -200,12 +200,6 @@ pub ruleset after-serves = (serve-right, serve-wrong)
 
 -- the entry of an output
 module _ (T : List ℕ) (i : ℕ) (buffer : List ℕ) (n : Names) (k : Entry T i buffer n) where
-  pub put-room : i * 35 + 35 ≤ length T
-  put-room = k .room
-
-  pub put-fits : length T < 2 ^ 64 → Fits w64 (i * 35)
-  put-fits h = record { fits = omega (arith, k .room) }
-
   pub put-nobody : n ≡ Nobody → (T₁ : List ℕ) → T₁ ≡ wrote T (i * 35) (replicate 35 0) → T₁ ≡ wrote T (i * 35) (entryBy buffer n)
   unfolding entryBy
   put-nobody e T₁ w = w ∙ rw e
@@ -225,7 +219,7 @@ module _ (T : List ℕ) (i : ℕ) (buffer : List ℕ) (n : Names) (k : Entry T i
     unfolding entryBy
     put-again e T₁ w = w ∙ rw e
 
-pub ruleset puts-named = (put-room, put-fits, put-nobody, once-giving, again-giving, put-once, put-again)
+pub ruleset puts-named = (put-nobody, once-giving, again-giving, put-once, put-again)
 
 -- one turn
 module _ (f P M : List ℕ) (s : Psbt) (buffer : List ℕ) (t : State) (T : List ℕ) (k : Task) where

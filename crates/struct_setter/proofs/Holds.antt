@@ -11,7 +11,7 @@ use lib.ListN.{length}
 use Rattle.format.specs.Tests.{pick, every}
 use Rattle.format.specs.Content.{present}
 use Rattle.format.specs.Tables.{view, gather, mapsReported}
-use Rattle.format.specs.Scripts.{Out, Given, allowed, named, served, whole, flat, entryFor, settable, SetOut, setOut, setGiven, setBy, setScripts}
+use Rattle.format.specs.Scripts.{Out, Given, allowed, named, served, whole, flat, entryFor, settable, setOut, setGiven, setBy, setScripts}
 use Rattle.format.specs.Told.{toldLeft, toldSet, toldSetOut}
 use Rattle.format.specs.declared.PsbtError.the-variants.{InvalidOutputScripts, NoRoom}
 use Rattle.format.specs.declared.Psbt.{Psbt}
@@ -26,12 +26,12 @@ use Rattle.writer.specs.Writes.{wrote}
 use Rattle.all_maps.specs.Alls.{ruledBy, AllFit, outAt, outsOf}
 use Rattle.all_maps.proofs.Gathers.{all-are, all-not, all-reported}
 use Rattle.setter.specs.Records.{records, sound}
-use Rattle.setter.specs.Fills.{stateAfter, Sound, Ready}
+use Rattle.setter.specs.Fills.{stateAfter, Ready}
 use Rattle.setter.specs.Rights.{servedAt, rightGiven}
 use Rattle.setter.proofs.Fills.{named-sound, Filling, fill-first, fill-done, fill-more, filled-none, filled-is}
 use Rattle.setter.proofs.Rights.{Serving, serve-done, serve-stop, serve-more, right-late, right-not, right-by}
 use Rattle.setter.proofs.Sets.{set-wrong, set-sound, set-right}
-use Rattle.struct_setter.specs.Names.{namesOf, servedBy, entryBy, Entry}
+use Rattle.struct_setter.specs.Names.{namesOf, servedBy, entryBy}
 use Rattle.struct_setter.specs.Turns.{wrong, begun, going, answerOf, tallied, writing, serving, afterServe, Turned, turned, turnOf, Due}
 use Rattle.struct_setter.specs.declared.Names.{Names}
 use Rattle.struct_setter.specs.declared.Names.the-variants.{Nobody, Once, Again}

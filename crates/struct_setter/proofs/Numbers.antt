@@ -1,10 +1,10 @@
 -- Records as numbers, three for each: the list of numbers that gives the same assignments. So the setters over records and over numbers agree.
-use mathlib.Core.Path.{_≡_, refl, sym, _∙_, ap}
+use mathlib.Core.Path.{_≡_, refl, _∙_, ap}
 use mathlib.Core.List.{List, [], _∷_}
 use Prim.Native.Nat.{ℕ, _%_}
 use native.Mathlib.Omega.{arith}
 use lib.ListN.{length}
-use Rattle.format.specs.Scripts.{Given, whole, andMore, flat, SetOut, setScripts}
+use Rattle.format.specs.Scripts.{Given, whole, andMore, flat, setScripts}
 use Rattle.format.specs.Tables.{View}
 use Rattle.format.specs.Told.{toldLeft, toldSet, toldSetOut}
 use Rattle.format.specs.declared.Psbt.{Psbt}

@@ -14,7 +14,7 @@ use Rattle.setter.specs.Records.{noRecord}
 use Rattle.struct_setter.specs.Names.{namesOf, namedBy, namesAfter}
 use Rattle.struct_setter.specs.Turns.{allowedToo, noted, tallied}
 use Rattle.struct_setter.specs.declared.Names.{Names}
-use Rattle.struct_setter.specs.declared.Names.the-variants.{Nobody, Once, Again}
+use Rattle.struct_setter.specs.declared.Names.the-variants.{Nobody, Again}
 use Rattle.struct_setter.specs.declared.Task.{Task}
 use Rattle.struct_setter.specs.declared.Task.the-variants.{Check, Serve, Write}
 

@@ -4,10 +4,6 @@ use borrow.Author.Needs.{needs}
 use lib.ListN.{length}
 use Rattle.setters.proofs.put_hex.Statement.{statement}
 use Rattle.setters.proofs.put_hex.Tie as tie
-use Rattle.setters.proofs.put_hex.Reads as reads
-use Rattle.setters.proofs.put_hex.Lts as lts
-use Rattle.io.proofs.print_hex.Reads as print-hex-reads
-use Rattle.setters.proofs.wide.Reads as wide-reads
 
 abbrev Inv-loop : tie.InvT-loop
 Inv-loop s i₀ i = Unit {0}

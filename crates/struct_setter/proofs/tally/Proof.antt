@@ -2,7 +2,7 @@
 -- The loop's variant carries its facts: the number k of the record, the answer so far with its machine value, and that the records from k on take it to what all take the first to.
 -- A turn looks into the slice, copies record k, puts it back, and calls `note` on it with a copy of the buffer's reference.
 use mathlib.Core.Path.{_≡_, refl, sym, _∙_, ap}
-use Prim.Native.Nat.{ℕ, _+_, _-_, _*_, _<_, _≤_, _^_, zero-le}
+use Prim.Native.Nat.{ℕ, _+_, _-_, _*_, _<_, _^_}
 use native.Mathlib.Omega.{arith}
 use mathlib.Core.Bool.{Bool, true, false}
 use mathlib.Core.List.{List, [], _∷_}
