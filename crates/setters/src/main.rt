@@ -95,40 +95,31 @@ fn by_numbers(outputs: u64, a: Assignment, b: Assignment, state: State, table: &
     put_outcome(r, table);
 }
 
-// Both, on two assignments of scripts that take 34 bytes each.
-fn show(outputs: u64, first: u64, start: u64, second: u64, state: State) {
-    let a = Assignment {
-        output: first,
+// An assignment of a script that takes 34 bytes.
+fn taproot(output: u64, start: u64) -> Assignment {
+    Assignment {
+        output: output,
         start: start,
         len: 34,
-    };
-    let b = Assignment {
-        output: second,
-        start: 34,
-        len: 34,
-    };
+    }
+}
+
+// Both, on two assignments, into tables that are two bytes longer than two entries.
+fn show(outputs: u64, first: u64, start: u64, second: u64, state: State) {
+    let a = taproot(first, start);
+    let b = taproot(second, 34);
     let mut one = [0xeeu8; 72];
     by_records(outputs, a, b, state, &mut one);
     let mut two = [0xeeu8; 72];
     by_numbers(outputs, a, b, state, &mut two);
 }
 
-// Both, into a table that lacks a byte.
+// Both, into tables that lack a byte.
 fn show_narrow(state: State) {
-    let a = Assignment {
-        output: 0,
-        start: 0,
-        len: 34,
-    };
-    let b = Assignment {
-        output: 1,
-        start: 34,
-        len: 34,
-    };
     let mut one = [0xeeu8; 69];
-    by_records(2, a, b, state, &mut one);
+    by_records(2, taproot(0, 0), taproot(1, 34), state, &mut one);
     let mut two = [0xeeu8; 69];
-    by_numbers(2, a, b, state, &mut two);
+    by_numbers(2, taproot(0, 0), taproot(1, 34), state, &mut two);
 }
 
 fn main() {
