@@ -1,18 +1,18 @@
 -- Records as numbers, three for each: the list of numbers that gives the same assignments. So the setters over records and over numbers agree.
-use mathlib.Core.Path.{_≡_, refl, _∙_, ap}
+use mathlib.Core.Path.{_≡_, refl, sym, _∙_, ap}
 use mathlib.Core.List.{List, [], _∷_}
 use Prim.Native.Nat.{ℕ, _%_}
 use native.Mathlib.Omega.{arith}
 use lib.ListN.{length}
-use Rattle.format.specs.Scripts.{Given, whole, andMore, flat, setScripts}
+use Rattle.format.specs.Scripts.{Given, whole, andMore, flat, setOut, setScripts}
 use Rattle.format.specs.Tables.{View}
 use Rattle.format.specs.Told.{toldLeft, toldSet, toldSetOut}
 use Rattle.format.specs.declared.Psbt.{Psbt}
 use Rattle.format.specs.declared.State.{State}
 use Rattle.format.specs.declared.Assignment.{Assignment}
 use Rattle.format.specs.declared.ScriptsSet.{ScriptsSet}
+use Rattle.format.proofs.Told.{set-out-one}
 use Rattle.setter.specs.Records.{records}
-use Rattle.setter.proofs.Sets.{one-set}
 
 -- output, start and length of each
 abbrev pub numbers : List Assignment → List ℕ
@@ -38,5 +38,8 @@ pub setters-agree : (v : ℕ → View) (s : Psbt) (xs : List Assignment) (buffer
     → toldLeft (toldSet a) T₁ ≡ toldSetOut (setScripts v s (flat (numbers xs)) buffer t T)
     → toldLeft (toldSet b) T₂ ≡ toldSetOut (setScripts v s (whole xs) buffer t T)
     → (a ≡ b) × (T₁ ≡ T₂)
+unfolding toldSetOut
 setters-agree v s xs buffer t T T₁ T₂ a b p q =
-    one-set a b T₁ T₂ (setScripts v s (whole xs) buffer t T) (p ∙ ap (λ (g : Given). toldSetOut (setScripts v s g buffer t T)) (flat-back xs)) q
+    let n : toldSetOut (setOut a T₁) ≡ toldSetOut (setOut b T₂) = p ∙ ap (λ (g : Given). toldSetOut (setScripts v s g buffer t T)) (flat-back xs) ∙ sym q in
+    let e : setOut a T₁ ≡ setOut b T₂ = set-out-one (setOut a T₁) (setOut b T₂) n in
+    ((cc), (cc))
