@@ -17,7 +17,7 @@ use Rattle.format.proofs.Tests.{and-left, and-right}
 use Rattle.writer.specs.Writes.{wrote}
 use Rattle.writer.proofs.Writes.{wrote-append, wrote-front, wrote-long, wrote-none}
 use Rattle.setter.specs.Records.{records, lies, sound, firstOf}
-use Rattle.setter.specs.Fills.{entriesFrom, stateAfter, filledFor, Sound, Ready}
+use Rattle.setter.specs.Fills.{entriesFrom, stateAfter, filledFor, Giving, Sound, Ready}
 use Rattle.setter.specs.declared.Naming.{Naming}
 use Rattle.setter.specs.declared.Naming.the-variants.{Nobody, By}
 
@@ -50,7 +50,7 @@ unfolding entryFor every
 entry-by buffer [] h = refl
 entry-by buffer (a ∷ xs) h = ap suc (sound-long buffer a (and-left (sound buffer a) (every (sound buffer) xs) h))
 
-named-sound : (buffer l : List ℕ) (i : ℕ) → Sound buffer l → every (sound buffer) (named i (records l)) ≡ true
+pub named-sound : (buffer l : List ℕ) (i : ℕ) → Sound buffer l → every (sound buffer) (named i (records l)) ≡ true
 unfolding named
 named-sound buffer l i k = every-only (sound buffer) (λ a. eqb (a .output) i) (records l) (k .all)
 
@@ -80,26 +80,33 @@ unfolding every firstOf
 by-sound p [] a h e = let z : _≡_ {A = ℕ} 0 1 = cc in absurd (omega arith)
 by-sound p (x ∷ xs) a h e = let k : x ≡ a = cc in rw k at (and-left (p x) (every p xs) h)
 
+-- an entry with a script
+module _ (T : List ℕ) (at : ℕ) (buffer : List ℕ) (a : Assignment) (k : Giving T at buffer a) where
+  pub given-lies : a .start + a .len ≤ length buffer
+  given-lies = sound-lies buffer a (k .given)
+
+  module _ (s : List ℕ) (q : s ≡ scriptIn buffer a) where
+    pub given-room : at + (1 + length s) ≤ length T
+    given-room = omega (arith, k .room, ap length q ∙ sound-long buffer a (k .given))
+
+    pub given-is : (T₁ : List ℕ) → T₁ ≡ wrote T at (1 ∷ s) → T₁ ≡ wrote T at (1 ∷ scriptIn buffer a)
+    given-is T₁ w = w ∙ ap (λ (x : List ℕ). wrote T at (1 ∷ x)) q
+
+pub ruleset puts-given = (given-lies, given-room, given-is)
+
 module _ (T : List ℕ) (i : ℕ) (buffer l : List ℕ) (k : Ready T (i * 35 + 35) buffer l) where
   module _ (o : Naming) (is : o ≡ firstOf (named i (records l))) where
     pub entry-none : o ≡ Nobody → (T₁ : List ℕ) → T₁ ≡ wrote T (i * 35) (replicate 35 0) → T₁ ≡ wrote T (i * 35) (entryFor buffer (named i (records l)))
     entry-none e T₁ w = w ∙ ap (wrote T (i * 35)) (sym (nobody-entry buffer (named i (records l)) (sym is ∙ e)))
 
     module _ (a : Assignment) (e : o ≡ By a) where
-      given : sound buffer a ≡ true
-      given = by-sound (sound buffer) (named i (records l)) a (named-sound buffer l i (k .sounds)) (sym is ∙ e)
+      pub entry-giving : Giving T (i * 35) buffer a
+      entry-giving = record { room = k .room; given = by-sound (sound buffer) (named i (records l)) a (named-sound buffer l i (k .sounds)) (sym is ∙ e) }
 
-      pub entry-lies : a .start + a .len ≤ length buffer
-      entry-lies = sound-lies buffer a given
+      pub entry-is : (T₁ : List ℕ) → T₁ ≡ wrote T (i * 35) (1 ∷ scriptIn buffer a) → T₁ ≡ wrote T (i * 35) (entryFor buffer (named i (records l)))
+      entry-is T₁ w = w ∙ ap (wrote T (i * 35)) (sym (by-entry buffer (named i (records l)) a (sym is ∙ e)))
 
-      module _ (s : List ℕ) (q : s ≡ scriptIn buffer a) where
-        pub entry-room : i * 35 + (1 + length s) ≤ length T
-        entry-room = omega (arith, k .room, ap length q ∙ sound-long buffer a given)
-
-        pub entry-is : (T₁ : List ℕ) → T₁ ≡ wrote T (i * 35) (1 ∷ s) → T₁ ≡ wrote T (i * 35) (entryFor buffer (named i (records l)))
-        entry-is T₁ w = w ∙ ap (wrote T (i * 35)) (ap (λ (x : List ℕ). 1 ∷ x) q ∙ sym (by-entry buffer (named i (records l)) a (sym is ∙ e)))
-
-pub ruleset puts-entry = (entry-none, entry-lies, entry-room, entry-is)
+pub ruleset puts-entry = (entry-none, entry-giving, entry-is)
 
 -- the entries still to be written, written from here, give the whole
 pub record Filling (T₀ : List ℕ) (n : ℕ) (l buffer T : List ℕ) (i : ℕ) : Type 0 where

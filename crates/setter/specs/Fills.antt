@@ -29,6 +29,11 @@ filledFor n buffer t T xs =
     (setOut (Done (stateAfter t n)) (entriesFrom buffer xs 0 n ++ drop (scriptEntry * n) T))
     (setOut (Refused NoRoom) T)
 
+-- an assignment's script is a taproot script in the buffer, and a table has room for its entry at a place
+pub record Giving (T : List ℕ) (at : ℕ) (buffer : List ℕ) (a : Assignment) : Type 0 where
+  pub room : at + 35 ≤ length T
+  pub given : sound buffer a ≡ true
+
 -- the scripts of a list of numbers are taproot scripts that lie in the buffer
 pub record Sound (buffer l : List ℕ) : Type 0 where
   pub all : every (sound buffer) (records l) ≡ true

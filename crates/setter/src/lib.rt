@@ -9,7 +9,7 @@ use format::State;
 ghost use mathlib.Core.Path.{_≡_};
 ghost use mathlib.Core.List.{_∷_};
 ghost use Prim.Native.Nat.{_+_, _*_, _<_, _≤_};
-ghost use lib.ListN.{length};
+ghost use lib.ListN.{length, replicate};
 ghost use Rattle.format.specs.Tests.{every};
 ghost use Rattle.format.specs.Content.{present};
 ghost use Rattle.format.specs.Tables.{view};
@@ -18,7 +18,7 @@ ghost use Rattle.format.specs.Told.{toldLeft, toldSet, toldSetOut};
 ghost use Rattle.writer.specs.Writes.{wrote};
 ghost use Rattle.all_maps.specs.Alls.{AllFit, outAt, outsOf};
 ghost use Rattle.setter.specs.Records.{records, recordCount, recordAt, recordFrom, lies, sound, firstOf};
-ghost use Rattle.setter.specs.Fills.{entriesFrom, stateAfter, filledFor, Sound, Ready};
+ghost use Rattle.setter.specs.Fills.{entriesFrom, stateAfter, filledFor, Giving, Sound, Ready};
 ghost use Rattle.setter.specs.Rights.{servedAt, rightGiven, OutputOf};
 
 // How many numbers an assignment takes in a list.
@@ -160,6 +160,23 @@ fn put_script(table: &mut [u8], at: usize, script: &[u8])
     writer::put_bytes(table, at + 1, script);
 }
 
+// Writes the entry of an output that gets no script: zero bytes.
+pub fn put_zeros(table: &mut [u8], at: usize)
+    requires { ⌜ at + 35 ≤ length (now table) ⌝ }
+    ensures { λ _. ⌜ now (table .exit) ≡ wrote (now (table .entry)) at (replicate 35 0) ⌝ }
+{
+    let zeros = [0u8; 35];
+    writer::put_bytes(table, at, &zeros);
+}
+
+// Writes the entry of an output that gets one: 01 and the script.
+pub fn put_given(table: &mut [u8], at: usize, buffer: &[u8], a: Assignment)
+    requires { ⌜ Giving (now table) at (now buffer) a ⌝ }
+    ensures { λ _. ⌜ now (table .exit) ≡ wrote (now (table .entry)) at (1 ∷ scriptIn (now (buffer .entry)) a) ⌝ }
+{
+    put_script(table, at, script_in(buffer, a));
+}
+
 // Writes the entry of output `i`: 01 and the script that is given for it, or zero bytes.
 fn put_entry(table: &mut [u8], i: usize, list: &[u64], buffer: &[u8])
     requires { ⌜ Ready (now table) (i * 35 + 35) (now buffer) (now list) ⌝ }
@@ -168,12 +185,11 @@ fn put_entry(table: &mut [u8], i: usize, list: &[u64], buffer: &[u8])
     let at = i * scripts::ENTRY;
     match first_named(list, i as u64) {
         Naming::Nobody => {
-            let zeros = [0u8; 35];
-            writer::put_bytes(table, at, &zeros);
+            put_zeros(table, at);
         }
         Naming::By(a) => {
             let given = a;
-            put_script(table, at, script_in(buffer, given));
+            put_given(table, at, buffer, given);
         }
     }
 }
@@ -191,7 +207,7 @@ fn put_entries(table: &mut [u8], outputs: usize, list: &[u64], buffer: &[u8])
 }
 
 // The state, with scripts set; with no outputs nothing counts as set.
-fn state_after(state: State, outputs: u64) -> State
+pub fn state_after(state: State, outputs: u64) -> State
     ensures { λ r. ⌜ r ≡ stateAfter state outputs ⌝ }
 {
     if outputs == 0 {
@@ -216,7 +232,7 @@ fn fill(outputs: u64, list: &[u64], buffer: &[u8], state: State, table: &mut [u8
 }
 
 // Output `i` has script 04.
-fn has_script(file: &[u8], pairs: &[u32], maps: &[u32], psbt: Psbt, i: u64) -> bool
+pub fn has_script(file: &[u8], pairs: &[u32], maps: &[u32], psbt: Psbt, i: u64) -> bool
     requires { ⌜ OutputOf (now file) (now pairs) (now maps) psbt i ⌝ }
     ensures { λ r. ⌜ r ≡ present (outAt (now (file .entry)) (now (pairs .entry)) (now (maps .entry)) psbt i .script) ⌝ }
 {
@@ -257,7 +273,7 @@ fn all_served(file: &[u8], pairs: &[u32], maps: &[u32], psbt: Psbt, list: &[u64]
 }
 
 // Scripts may still be set.
-fn is_settable(state: State) -> bool
+pub fn is_settable(state: State) -> bool
     ensures { λ r. ⌜ r ≡ settable state ⌝ }
 {
     if state.set {

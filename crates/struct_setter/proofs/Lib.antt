@@ -1,0 +1,5 @@
+pub mod Again
+pub mod Asks
+pub mod Numbers
+pub mod Tallies
+pub mod Holds
