@@ -4,6 +4,7 @@ ghost use lib.ListN.{length};
 use answer_lines::answer_parse;
 use answer_lines::put;
 use lookup_lines::answer_lookups;
+use table_lines::answer_tables;
 use tx_lines::answer_tx;
 use wire::u32_from_le_bytes;
 
@@ -15,6 +16,8 @@ const LOOKUPS: u8 = 1;
 const TX: u8 = 2;
 
 const SCRIPTED: u8 = 3;
+
+const TABLES: u8 = 4;
 
 // How many ways there are to set scripts.
 const WAYS: usize = 16;
@@ -48,6 +51,7 @@ fn answer(
             let way = (pair_room % WAYS) as u8;
             Turn::On(answer_tx(file, true, way, map_room, pairs, maps, out, at))
         }
+        TABLES => Turn::On(answer_tables(file, pair_room, map_room, pairs, maps, out, at)),
         _ => cut(out, at),
     }
 }
