@@ -73,7 +73,7 @@ damage 'participants and one byte more' 's/value\.len() % 33 != 0/value.len() % 
 damage 'no participants at all' 's/if value\.is_empty() || value\.len() % 33/if value.len() % 33/'
 damage 'a leaf hash left out of the key' 's/^        66 + 32$/        66/'
 damage 'a nonce asked as a signature' 's/^            PSBT_IN_MUSIG2_PUB_NONCE,/            PSBT_IN_MUSIG2_PARTIAL_SIG,/'
-damage 'a proof asked as a share' 's/get_sized(PSBT_IN_SP_DLEQ, scan_key)/get(PSBT_IN_SP_ECDH_SHARE, scan_key).map(|_| \&[0; 64])/'
+damage 'a proof that is not always found' 's/get_sized(PSBT_IN_SP_DLEQ, scan_key)/&.filter(|v: \&\&[u8; 64]| v[0] < 128)/'
 damage 'height 500,000,000 written' 's/h >= 500_000_000/h > 500_000_000/'
 damage 'time 500,000,000 refused' 's/t < 500_000_000/t <= 500_000_000/'
 damage 'the least height' 's/m\.max(h)/m.min(h)/'

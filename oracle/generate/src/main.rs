@@ -36,23 +36,14 @@ impl<W: Write> Sink<W> {
         self.put_kind(PARSE, what, rooms, file)
     }
 
-    pub fn put_kind(
-        &mut self,
-        kind: u8,
-        what: &'static str,
-        rooms: (u32, u32),
-        file: &[u8],
-    ) -> io::Result<bool> {
+    pub fn put_kind(&mut self, kind: u8, what: &'static str, rooms: (u32, u32), file: &[u8]) -> io::Result<bool> {
         if self.left == 0 {
             return Ok(false);
         }
         self.left -= 1;
         self.bytes += file.len() as u64;
         *self.made.entry(what).or_default() += 1;
-        records::write(
-            &mut self.to,
-            &Record { kind, pair_room: rooms.0, map_room: rooms.1, file: file.to_vec() },
-        )?;
+        records::write(&mut self.to, &Record { kind, pair_room: rooms.0, map_room: rooms.1, file: file.to_vec() })?;
         Ok(true)
     }
 }
@@ -186,7 +177,11 @@ fn main() -> io::Result<()> {
             sink.left = count;
             generated(seed, &mut sink)?;
         }
-        _ => return Err(io::Error::other("generate [lookups|transactions|tables] SEED COUNT | generate fixed|asked|long")),
+        _ => {
+            return Err(io::Error::other(
+                "generate [lookups|transactions|tables] SEED COUNT | generate fixed|asked|long",
+            ))
+        }
     }
     sink.to.flush()?;
     let all: u64 = sink.made.values().sum();

@@ -69,11 +69,8 @@ fn body(random: &mut Random, draft: &Draft) -> Body {
     };
     let unscripted: Vec<bool> =
         draft.maps.iter().filter(|m| m.kind as usize == 2).map(|m| m.place(&[0x04]).is_none()).collect();
-    let list = (0u64..)
-        .zip(&unscripted)
-        .filter(|(_, waits)| **waits)
-        .flat_map(|(output, _)| [output, behind, 34])
-        .collect();
+    let list =
+        (0u64..).zip(&unscripted).filter(|(_, waits)| **waits).flat_map(|(output, _)| [output, behind, 34]).collect();
     let entry = |waits: &bool| if *waits { [vec![1], script()].concat() } else { vec![0; 35] };
     Body {
         tx_version: random.pick(&[1, 2, 2, 0x7fff_ffff, 0x8000_0002]),

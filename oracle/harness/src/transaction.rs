@@ -86,8 +86,7 @@ pub fn line(mut psbt: Psbt, record: &Record) -> String {
     }
     put_tx(&mut line, &psbt, room);
     // What the one known difference comes from: the original takes the fallback into the greatest asked lock.
-    let asked =
-        psbt.inputs.iter().any(|i| i.required_time_locktime.is_some() || i.required_height_locktime.is_some());
+    let asked = psbt.inputs.iter().any(|i| i.required_time_locktime.is_some() || i.required_height_locktime.is_some());
     if let (Some(fallback), true) = (psbt.fallback_locktime, asked) {
         line.word("fallback");
         line.word(fallback);
