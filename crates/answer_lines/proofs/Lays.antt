@@ -37,8 +37,9 @@ module _ (at : ℕ) (D S : List ℕ) where
 pub ruleset lays = (lay-past, lay-full, lay-room, lay-fits, lay-put)
 
 -- digits that were made elsewhere, put
-pub spelt : (n k : ℕ) (D : List ℕ) (from to : Spot) → Fewest 10 1 n k → take k D ≡ digits 10 k n → to ≡ lay from (take k D) → Spelt n from to
-spelt n k D from to f d e = record { k = k; fewest = f; is = e ∙ ap (lay from) d }
+pub spelt : (base least n k : ℕ) (D : List ℕ) (from to : Spot) → Fewest base least n k → take k D ≡ digits base k n → to ≡ lay from (take k D)
+    → Spelt base least n from to
+spelt base least n k D from to f d e = record { k = k; fewest = f; is = e ∙ ap (lay from) d }
 
 -- a part from the front on is as long as asked
 pub front-length : (T : List ℕ) (n : ℕ) → n ≤ length T → n ≡ length (take n T)

@@ -16,8 +16,8 @@ pub data Spot : Type 0 where
 unfoldable pub lay : Spot → List ℕ → Spot
 lay (spot at out) text = pick (leb (at + length text) (length out)) (spot (at + length text) (wrote out at text)) (spot at out)
 
--- a number put in decimal, in the fewest digits that hold it
-pub record Spelt (n : ℕ) (from to : Spot) : Type 0 where
+-- a number put by its digits in a base, the fewest that hold it but no less than `least`
+pub record Spelt (base least n : ℕ) (from to : Spot) : Type 0 where
   pub k : ℕ
-  pub fewest : Fewest 10 1 n k
-  pub is : to ≡ lay from (digits 10 k n)
+  pub fewest : Fewest base least n k
+  pub is : to ≡ lay from (digits base k n)

@@ -1,12 +1,13 @@
-// The line that answers a parse, put into a lent buffer piece by piece.
+// Lines put into a lent buffer piece by piece, and the line that answers a parse.
 ghost use mathlib.Core.Path.{_≡_};
-ghost use Prim.Native.Nat.{_+_, _≤_, _<_};
+ghost use Prim.Native.Nat.{_+_, _≤_, _<_, min, max};
 ghost use lib.ListN.{length};
 ghost use Rattle.io.specs.Counts.{Counts};
 ghost use Rattle.answer_lines.specs.Lines.{spot, lay, Spelt};
 use format::Maybe;
 use format::Parsed;
 use format::Psbt;
+use format::PsbtError;
 use std::num::wrapping_sub_u64;
 use writer::bits_of;
 use writer::put_bytes;
@@ -34,8 +35,8 @@ pub fn put(out: &mut [u8], at: usize, text: &[u8]) -> usize
 }
 
 // A number in decimal.
-fn put_number(out: &mut [u8], at: usize, n: u64) -> usize
-    ensures { λ r. ⌜ Spelt n (spot at (now (out .entry))) (spot r (now (out .exit))) ⌝ }
+pub fn put_number(out: &mut [u8], at: usize, n: u64) -> usize
+    ensures { λ r. ⌜ Spelt 10 1 n (spot at (now (out .entry))) (spot r (now (out .exit))) ⌝ }
 {
     let mut digits = [0u8; 20];
     let k = io::decimal(n, &mut digits);
@@ -43,9 +44,45 @@ fn put_number(out: &mut [u8], at: usize, n: u64) -> usize
 }
 
 // A number behind a space.
-fn put_word(out: &mut [u8], at: usize, n: u64) -> usize {
+pub fn put_word(out: &mut [u8], at: usize, n: u64) -> usize {
     let to = put(out, at, b" ");
     put_number(out, to, n)
+}
+
+// The two hexadecimal digits of a byte.
+pub fn put_byte(out: &mut [u8], at: usize, byte: u8) -> usize
+    ensures { λ r. ⌜ Spelt 16 (min (max 2 1) 16) byte (spot at (now (out .entry))) (spot r (now (out .exit))) ⌝ }
+{
+    let mut two = [0u8; 16];
+    let k = io::hex(byte as u64, 2, &mut two);
+    put(out, at, &two[..k])
+}
+
+// Bytes in hexadecimal behind a space, an equals sign where there are none.
+pub fn put_hex(out: &mut [u8], at: usize, bytes: &[u8]) -> usize {
+    if bytes.len() == 0 {
+        return put(out, at, b" =");
+    }
+    let mut to = put(out, at, b" ");
+    let mut i: usize = 0;
+    while i < bytes.len() {
+        to = put_byte(out, to, bytes[i]);
+        i = i + 1;
+    }
+    to
+}
+
+// A refusal's number behind a space and a mark.
+pub fn put_refusal(out: &mut [u8], at: usize, error: PsbtError) -> usize {
+    let to = put(out, at, b" !");
+    put_number(out, to, error.number() as u64)
+}
+
+// A whole line that says only that the file is refused.
+pub fn put_refused(out: &mut [u8], at: usize, error: PsbtError) -> usize {
+    let to = put(out, at, b"no");
+    let to = put_word(out, to, error.number() as u64);
+    put(out, to, b"\n")
 }
 
 // A number that may be negative, behind a space.

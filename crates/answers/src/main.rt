@@ -3,10 +3,24 @@ ghost use mathlib.Core.Path.{_≡_};
 ghost use lib.ListN.{length};
 use answer_lines::answer_parse;
 use answer_lines::put;
+use lookup_lines::answer_lookups;
+use table_lines::answer_tables;
+use tx_lines::answer_tx;
 use wire::u32_from_le_bytes;
 
 // The kinds of records.
 const PARSE: u8 = 0;
+
+const LOOKUPS: u8 = 1;
+
+const TX: u8 = 2;
+
+const SCRIPTED: u8 = 3;
+
+const TABLES: u8 = 4;
+
+// How many ways there are to set scripts.
+const WAYS: usize = 16;
 
 // Where the lines end so far: the run is over, or goes on.
 enum Turn {
@@ -31,6 +45,13 @@ fn answer(
 ) -> Turn {
     match kind {
         PARSE => Turn::On(answer_parse(file, pair_room, map_room, pairs, maps, out, at)),
+        LOOKUPS => Turn::On(answer_lookups(file, pairs, maps, out, at)),
+        TX => Turn::On(answer_tx(file, false, 0, map_room, pairs, maps, out, at)),
+        SCRIPTED => {
+            let way = (pair_room % WAYS) as u8;
+            Turn::On(answer_tx(file, true, way, map_room, pairs, maps, out, at))
+        }
+        TABLES => Turn::On(answer_tables(file, pair_room, map_room, pairs, maps, out, at)),
         _ => cut(out, at),
     }
 }

@@ -5,7 +5,9 @@
 //!
 //! Without `--whole`, a line of OURS that is a 22 or a 23 is skipped and counted: the other side knows no rooms. Only its
 //! entries are looked at: they must be the first of theirs, and for a 22 theirs must have another pair. A line of THEIRS that is
-//! only `no NUMBER` is compared by its number. With `--records` a 22 or 23 must have used up its room, and the shortest record of
+//! only `no NUMBER` is compared by its number. A line of THEIRS that ends with `fallback NUMBER` is the original's about a
+//! transaction whose inputs ask a lock: a transaction of it may differ from ours in the lock alone, and only so that its lock is
+//! the greater of the fallback and ours. Such lines are counted. A line of THEIRS that is `none` is skipped and counted. With `--records` a 22 or 23 must have used up its room, and the shortest record of
 //! those that differ is shown. Ends with 1 if anything differed or nothing was compared.
 
 use std::collections::BTreeMap;
@@ -43,6 +45,50 @@ fn full(line: &str, record: &records::Record) -> bool {
         _ => (3, records::MAPS.min(record.map_room as usize)),
     };
     line.split(' ').nth(word).and_then(|used| used.parse::<usize>().ok()).is_some_and(|used| used >= room)
+}
+
+/// How a line about a transaction stands to the original's, which may tell the fallback behind it.
+#[derive(PartialEq)]
+enum Stands {
+    Equal,
+    /// Alike but for locks, each the greater of the fallback and ours.
+    GreaterLock,
+    Differs,
+}
+
+fn stands(ours: &str, theirs: &str) -> Stands {
+    let Some((theirs, fallback)) = theirs.split_once(" fallback ") else {
+        return if ours == theirs { Stands::Equal } else { Stands::Differs };
+    };
+    let Ok(fallback) = fallback.parse::<u32>() else { return Stands::Differs };
+    let (our_words, their_words): (Vec<&str>, Vec<&str>) = (ours.split(' ').collect(), theirs.split(' ').collect());
+    if our_words.len() != their_words.len() {
+        return Stands::Differs;
+    }
+    let mut stands = Stands::Equal;
+    for (our, their) in our_words.into_iter().zip(their_words) {
+        if our == their {
+            continue;
+        }
+        match (lock_of(our), lock_of(their)) {
+            (Some((our_rest, our_lock)), Some((their_rest, their_lock)))
+                if our_rest == their_rest && their_lock == our_lock.max(fallback) =>
+            {
+                stands = Stands::GreaterLock;
+            }
+            _ => return Stands::Differs,
+        }
+    }
+    stands
+}
+
+/// A transaction in hexadecimal without its lock, and the lock.
+fn lock_of(word: &str) -> Option<(&str, u32)> {
+    if !word.bytes().all(|digit| digit.is_ascii_hexdigit()) {
+        return None;
+    }
+    let (rest, lock) = word.split_at_checked(word.len().checked_sub(8)?)?;
+    Some((rest, u32::from_str_radix(lock, 16).ok()?.swap_bytes()))
 }
 
 /// Refusals by their number, then the rest.
@@ -104,6 +150,7 @@ fn run(arguments: &[String]) -> io::Result<bool> {
         None => None,
     };
     let (mut compared, mut by_number, mut equals, mut skipped, mut differing) = (0u64, 0u64, 0u64, 0u64, 0u64);
+    let mut greater_locks = 0u64;
     let mut shortest: Option<(u64, records::Record)> = None;
     for at in 1u64.. {
         let (our, their) = (ours.next().transpose()?, theirs.next().transpose()?);
@@ -127,13 +174,28 @@ fn run(arguments: &[String]) -> io::Result<bool> {
                 continue;
             }
             false
+        } else if !whole && their == "none" {
+            skipped += 1;
+            continue;
         } else {
             compared += 1;
             if numbered {
                 by_number += 1;
                 verdict(&our) == their
             } else {
-                our == their
+                let stands = stands(&our, &their);
+                if stands == Stands::GreaterLock {
+                    greater_locks += 1;
+                    if greater_locks == 1 {
+                        println!(
+                            "the first with a greater lock: record {at}\n  ours   {}\n  theirs {}",
+                            shortened(&our),
+                            shortened(&their)
+                        );
+                    }
+                    continue;
+                }
+                stands == Stands::Equal
             }
         };
         if equal {
@@ -163,7 +225,7 @@ fn run(arguments: &[String]) -> io::Result<bool> {
     }
     show(&counts, "  answer     lines differing");
     println!(
-        "compared {compared} ({by_number} by number alone), equal {equals}, skipped {skipped}, differing {differing}"
+        "compared {compared} ({by_number} by number alone), equal {equals}, skipped {skipped}, differing {differing}, greater locks {greater_locks}"
     );
     Ok(differing == 0 && compared > 0)
 }

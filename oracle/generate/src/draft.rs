@@ -111,6 +111,26 @@ impl Draft {
         (self.maps.iter().map(|map| map.pairs.len()).sum(), self.maps.len())
     }
 
+    /// The entries of a draft that nothing was done to.
+    pub fn tables(&self) -> (Vec<[u32; 4]>, Vec<[u32; 2]>) {
+        let (mut pairs, mut maps) = (Vec::new(), Vec::new());
+        let mut to = self.magic.clone();
+        for map in &self.maps {
+            maps.push([pairs.len() as u32, map.pairs.len() as u32]);
+            for pair in &map.pairs {
+                put_size(&mut to, pair.key.len() as u64, pair.forms.0);
+                let key = to.len() as u32;
+                to.extend_from_slice(&pair.key);
+                put_size(&mut to, pair.value.len() as u64, pair.forms.1);
+                let value = to.len() as u32;
+                to.extend_from_slice(&pair.value);
+                pairs.push([key, pair.key.len() as u32, value, pair.value.len() as u32]);
+            }
+            put_size(&mut to, 0, map.end.unwrap_or(0));
+        }
+        (pairs, maps)
+    }
+
     pub fn bytes(&self) -> Vec<u8> {
         let mut to = self.magic.clone();
         for map in &self.maps {

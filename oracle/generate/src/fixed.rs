@@ -346,6 +346,86 @@ pub fn all<W: Write>(sink: &mut Sink<W>) -> io::Result<()> {
     Ok(())
 }
 
+/// What lookups and transactions say of the files by name.
+pub fn asked<W: Write>(sink: &mut Sink<W>) -> io::Result<()> {
+    let room = records::TX_ROOM as u32;
+    let named = examples().into_iter().chain([base64(REQUIRED_ONLY), base64(WITH_PREVIOUS), rich()]).chain(bip_370());
+    for file in named {
+        sink.put_kind(records::LOOKUPS, "lookups", (0, 0), &file)?;
+        sink.put_kind(records::TX, "transaction", (0, room), &file)?;
+        sink.put_kind(records::SCRIPTED, "with scripts", (0, room), &file)?;
+    }
+    for file in witness_utxos().into_iter().chain(signers()) {
+        sink.put_kind(records::LOOKUPS, "lookups", (0, 0), &file)?;
+    }
+    for file in [e(), f(), rich(), waiting()] {
+        for way in 0..records::WAYS {
+            sink.put_kind(records::SCRIPTED, "every way to set", (way, room), &file)?;
+        }
+    }
+    // Rooms about the lengths of the transactions, 61 and 147.
+    for room in (0..=4).chain(58..=64) {
+        sink.put_kind(records::TX, "room", (0, room), &f())?;
+    }
+    for room in (0..=4).chain(144..=150) {
+        sink.put_kind(records::SCRIPTED, "room", (0, room), &waiting())?;
+    }
+    Ok(())
+}
+
+/// F with a witness UTXO of many shapes.
+fn witness_utxos() -> Vec<Vec<u8>> {
+    let (one, two) = counts(1, 1);
+    let mut files = Vec::new();
+    for length in [0, 1, 7, 8, 9, 10, 11, 261, 262] {
+        for said in [0u8, 1, 2, 0xfb, 0xfc, 0xfd, 0xff] {
+            let mut value = vec![0xe8, 3, 0, 0, 0, 0, 0, 0x80, said];
+            value.resize(length.max(9), 0x51);
+            value.truncate(length);
+            let mut pair = hex("0101");
+            put_size(&mut pair, length as u64, 0);
+            pair.extend(value);
+            let pair: String = pair.iter().map(|byte| format!("{byte:02x}")).collect();
+            files.push(maps(&[&[TX, &one, &two, VERSION], &[&pair, TXID, INDEX], &[AMOUNT, SCRIPT]]));
+        }
+    }
+    files
+}
+
+/// F with lists of participants, nonces and signatures of many lengths, in input and output.
+fn signers() -> Vec<Vec<u8>> {
+    let (one, two) = counts(1, 1);
+    let bytes = |byte: &str, n: usize| byte.repeat(n);
+    let pair = |key_type: u8, data: usize, value: usize| {
+        format!("{:02x}{key_type:02x}{}{value:02x}{}", data + 1, bytes("02", data), bytes("03", value))
+    };
+    let mut files = Vec::new();
+    for value in [0, 1, 32, 33, 34, 65, 66, 67, 99] {
+        for data in [0, 32, 33, 34, 64, 65, 66, 67, 97, 98, 99] {
+            let (list, nonce, signature) = (pair(0x1a, data, value), pair(0x1b, data, value), pair(0x1c, data, value));
+            let members = pair(0x08, data, value);
+            files.push(maps(&[
+                &[TX, &one, &two, VERSION],
+                &[TXID, INDEX, &list, &nonce, &signature],
+                &[AMOUNT, SCRIPT, &members],
+            ]));
+        }
+    }
+    files
+}
+
+/// Three outputs, two of which wait for a script.
+fn waiting() -> Vec<u8> {
+    let code = format!("010942{}", ("02".to_string() + &"aa".repeat(32)).repeat(2));
+    maps(&[
+        &[TX, "01040101", "01050103", VERSION],
+        &[TXID, INDEX],
+        &[AMOUNT, &code],
+        &[AMOUNT, SCRIPT],
+        &[AMOUNT, &code],
+    ])
+}
+
 pub fn long<W: Write>(sink: &mut Sink<W>) -> io::Result<()> {
     // E with a proprietary pair that brings it to this length.
     let filled = |length: usize| {

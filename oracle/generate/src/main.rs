@@ -1,8 +1,12 @@
 //! Makes records for the comparison.
 //!
-//!     generate SEED COUNT    COUNT records, the same ones for the same seed
-//!     generate fixed         the examples, the vectors, every cut and every flipped bit of short files, every small room
-//!     generate long          files about the limits of length and room
+//!     generate SEED COUNT               COUNT parses, the same ones for the same seed
+//!     generate lookups SEED COUNT       as many lookups
+//!     generate transactions SEED COUNT  as many transactions, with and without scripts set
+//!     generate tables SEED COUNT        as many tables that may hold anything
+//!     generate fixed                    the examples, the vectors, every cut and flipped bit of short files, every small room
+//!     generate asked                    lookups and transactions of the examples, the vectors and the corners
+//!     generate long                     files about the limits of length and room
 //!
 //! Records go to standard output, a count of what was made to standard error. `compare --count` on somebody's answers tells
 //! how often each refusal occurred.
@@ -11,10 +15,11 @@ mod damage;
 mod draft;
 mod fixed;
 mod random;
+mod tables;
 mod valid;
 
 use random::Random;
-use records::{Record, MAPS, PAIRS, PARSE};
+use records::{Record, LOOKUPS, MAPS, PAIRS, PARSE, SCRIPTED, SET_LATE, TX, TX_ROOM, WAYS};
 use std::collections::BTreeMap;
 use std::io::{self, BufWriter, Write};
 
@@ -28,16 +33,17 @@ pub struct Sink<W: Write> {
 impl<W: Write> Sink<W> {
     /// One record; `false` once all that were asked for are written.
     pub fn put(&mut self, what: &'static str, rooms: (u32, u32), file: &[u8]) -> io::Result<bool> {
+        self.put_kind(PARSE, what, rooms, file)
+    }
+
+    pub fn put_kind(&mut self, kind: u8, what: &'static str, rooms: (u32, u32), file: &[u8]) -> io::Result<bool> {
         if self.left == 0 {
             return Ok(false);
         }
         self.left -= 1;
         self.bytes += file.len() as u64;
         *self.made.entry(what).or_default() += 1;
-        records::write(
-            &mut self.to,
-            &Record { kind: PARSE, pair_room: rooms.0, map_room: rooms.1, file: file.to_vec() },
-        )?;
+        records::write(&mut self.to, &Record { kind, pair_room: rooms.0, map_room: rooms.1, file: file.to_vec() })?;
         Ok(true)
     }
 }
@@ -109,6 +115,42 @@ fn generated<W: Write>(seed: u64, sink: &mut Sink<W>) -> io::Result<()> {
     }
 }
 
+/// A file that is mostly accepted.
+fn mostly_valid(random: &mut Random) -> (&'static str, draft::Draft) {
+    let mut draft = if random.once_in(4) { valid::draft(random) } else { valid::rich_draft(random) };
+    if random.once_in(10) {
+        damage::damage(random, &mut draft);
+        return ("damaged", draft);
+    }
+    ("valid", draft)
+}
+
+fn lookups<W: Write>(seed: u64, sink: &mut Sink<W>) -> io::Result<()> {
+    let mut random = Random::new(seed);
+    loop {
+        let (what, draft) = mostly_valid(&mut random);
+        if !sink.put_kind(LOOKUPS, what, (0, 0), &draft.bytes())? {
+            return Ok(());
+        }
+    }
+}
+
+fn transactions<W: Write>(seed: u64, sink: &mut Sink<W>) -> io::Result<()> {
+    let mut random = Random::new(seed);
+    loop {
+        let (what, draft) = mostly_valid(&mut random);
+        let file = draft.bytes();
+        let kind = if random.once_in(3) { TX } else { SCRIPTED };
+        let way = if random.once_in(3) { 0 } else { random.below(WAYS.into()) as u32 };
+        // The original keeps a transaction whatever its length: a room is small only where nothing is set behind it.
+        let short = random.once_in(12) && way != SET_LATE;
+        let room = if short { random.below(2 * file.len() as u64) as u32 } else { TX_ROOM as u32 };
+        if !sink.put_kind(kind, what, (way, room), &file)? {
+            return Ok(());
+        }
+    }
+}
+
 fn main() -> io::Result<()> {
     let arguments: Vec<String> = std::env::args().skip(1).collect();
     let words: Vec<&str> = arguments.iter().map(String::as_str).collect();
@@ -116,6 +158,18 @@ fn main() -> io::Result<()> {
     match words[..] {
         ["fixed"] => fixed::all(&mut sink)?,
         ["long"] => fixed::long(&mut sink)?,
+        ["asked"] => fixed::asked(&mut sink)?,
+        [kind @ ("lookups" | "transactions" | "tables"), seed, count] => {
+            let (Ok(seed), Ok(count)) = (seed.parse(), count.parse()) else {
+                return Err(io::Error::other("a seed and a count are numbers"));
+            };
+            sink.left = count;
+            match kind {
+                "lookups" => lookups(seed, &mut sink)?,
+                "transactions" => transactions(seed, &mut sink)?,
+                _ => tables::generated(seed, &mut sink)?,
+            }
+        }
         [seed, count] => {
             let (Ok(seed), Ok(count)) = (seed.parse(), count.parse()) else {
                 return Err(io::Error::other("a seed and a count are numbers"));
@@ -123,7 +177,11 @@ fn main() -> io::Result<()> {
             sink.left = count;
             generated(seed, &mut sink)?;
         }
-        _ => return Err(io::Error::other("generate SEED COUNT | generate fixed | generate long")),
+        _ => {
+            return Err(io::Error::other(
+                "generate [lookups|transactions|tables] SEED COUNT | generate fixed|asked|long",
+            ))
+        }
     }
     sink.to.flush()?;
     let all: u64 = sink.made.values().sum();

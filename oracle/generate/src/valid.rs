@@ -258,6 +258,16 @@ fn extra(random: &mut Random, names: &Names, kind: Kind) -> Pair {
     }
 }
 
+/// A pair of a type that typed lookups ask by a key.
+fn payment(random: &mut Random, names: &Names, kind: Kind) -> Pair {
+    let key_type = match kind {
+        Kind::Global => random.pick(&[0x07, 0x08]),
+        Kind::Input => random.pick(&[0x01, 0x06, 0x1a, 0x1a, 0x1b, 0x1b, 0x1c, 0x1c, 0x1d, 0x1e, 0x1f, 0x20]),
+        Kind::Output => random.pick(&[0x02, 0x08, 0x08]),
+    };
+    listed(random, names, kind, key_type)
+}
+
 /// The least form of a compact size: mostly the shortest.
 fn form(random: &mut Random, rare: u64) -> u8 {
     if random.once_in(rare) {
@@ -278,6 +288,13 @@ fn extras(random: &mut Random, few: bool) -> usize {
     }
 }
 
+fn payments(random: &mut Random, rich: bool, few: bool) -> usize {
+    if !rich || few {
+        return 0;
+    }
+    random.pick(&[0, 0, 1, 2, 3, 5])
+}
+
 pub fn count(random: &mut Random, number: u64) -> Vec<u8> {
     let mut value = Vec::new();
     put_size(&mut value, number, form(random, 10));
@@ -285,6 +302,15 @@ pub fn count(random: &mut Random, number: u64) -> Vec<u8> {
 }
 
 pub fn draft(random: &mut Random) -> Draft {
+    draft_of(random, false)
+}
+
+/// A file with more of what typed lookups ask, and with silent payment outputs that wait for their scripts.
+pub fn rich_draft(random: &mut Random) -> Draft {
+    draft_of(random, true)
+}
+
+fn draft_of(random: &mut Random, rich: bool) -> Draft {
     let names = Names {
         keys: (0..3).map(|i| [vec![2 + i % 2], random.bytes(32)].concat()).collect(),
         hashes: (0..2).map(|_| random.bytes(32)).collect(),
@@ -302,6 +328,9 @@ pub fn draft(random: &mut Random) -> Draft {
     let mut global = Map::new(Kind::Global);
     for _ in 0..extras(random, false) {
         global.pairs.push(extra(random, &names, Kind::Global));
+    }
+    for _ in 0..payments(random, rich, many) {
+        global.pairs.push(payment(random, &names, Kind::Global));
     }
     for key_type in [0x03, 0x06] {
         if random.once_in(3) {
@@ -327,6 +356,9 @@ pub fn draft(random: &mut Random) -> Draft {
         for _ in 0..extras(random, many) {
             let pair = extra(random, &names, Kind::Input);
             map.pairs.push(pair);
+        }
+        for _ in 0..payments(random, rich, many) {
+            map.pairs.push(payment(random, &names, Kind::Input));
         }
         for key_type in [0x0e, 0x0f] {
             if !random.once_in(if many { 3 } else { 16 }) {
@@ -361,11 +393,14 @@ pub fn draft(random: &mut Random) -> Draft {
             let pair = extra(random, &names, Kind::Output);
             map.pairs.push(pair);
         }
+        for _ in 0..payments(random, rich, many) {
+            map.pairs.push(payment(random, &names, Kind::Output));
+        }
         if !random.once_in(16) {
             let pair = listed(random, &names, Kind::Output, 0x03);
             map.pairs.push(pair);
         }
-        if random.once_in(5) {
+        if random.once_in(if rich { 2 } else { 5 }) {
             let pair = listed(random, &names, Kind::Output, 0x09);
             map.pairs.push(pair);
         }

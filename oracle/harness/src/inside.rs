@@ -3,6 +3,8 @@
 use super::*;
 use records::Tables;
 
+pub mod lookups;
+
 /// A refusal's place in the enum, counted from 1.
 pub fn number(error: PsbtError) -> u32 {
     error as u32 + 1

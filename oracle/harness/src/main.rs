@@ -4,6 +4,8 @@ extern crate alloc;
 
 include!(concat!(env!("OUT_DIR"), "/module.rs"));
 
+mod transaction;
+
 use fastpsbt::{inside, Psbt};
 use records::{Fields, Record, Tables, LIMIT};
 
@@ -27,9 +29,24 @@ fn parse(file: &[u8]) -> String {
     }
 }
 
+/// The line of what is asked of an accepted file, or its refusal.
+fn accepted(record: &Record, line: impl FnOnce(Psbt) -> String) -> String {
+    if record.file.len() > LIMIT {
+        return "no 21".to_string();
+    }
+    match Psbt::parse(&record.file) {
+        Ok(psbt) => line(psbt),
+        Err(error) => format!("no {}", inside::number(error)),
+    }
+}
+
 fn main() -> std::io::Result<()> {
     records::run(|record: &Record| match record.kind {
         records::PARSE => parse(&record.file),
+        records::LOOKUPS => accepted(record, |psbt| inside::lookups::line(&psbt)),
+        records::TX | records::SCRIPTED => accepted(record, |psbt| transaction::line(psbt, record)),
+        // The original has no tables of its own to lend.
+        records::TABLES => "none".to_string(),
         kind => unreachable!("kind {kind} is known but has no line"),
     })
 }

@@ -4,6 +4,11 @@
 //!
 //! It is a model, a third opinion. Nothing is proved about it.
 
+mod lookups;
+mod tables;
+mod transaction;
+
+use lookups::Lent;
 use records::{Fields, Record, Tables, LIMIT, MAPS, PAIRS};
 
 const EOF: u32 = 2;
@@ -237,21 +242,37 @@ impl<'a> Reading<'a> {
     }
 }
 
-fn parse(record: &Record) -> String {
-    let mut reading = Reading {
-        file: &record.file,
-        at: 0,
-        pair_room: (record.pair_room as usize).min(PAIRS),
-        map_room: (record.map_room as usize).min(MAPS),
-        tables: Tables::default(),
-    };
+fn read(file: &[u8], pair_room: usize, map_room: usize) -> (Result<Fields, u32>, Tables) {
+    let mut reading = Reading { file, at: 0, pair_room, map_room, tables: Tables::default() };
     let outcome = reading.file();
-    records::parse_line(&outcome, &reading.tables)
+    (outcome, reading.tables)
+}
+
+fn parse(record: &Record) -> String {
+    let (outcome, tables) =
+        read(&record.file, (record.pair_room as usize).min(PAIRS), (record.map_room as usize).min(MAPS));
+    records::parse_line(&outcome, &tables)
+}
+
+/// The line of what is asked of an accepted file, or its refusal.
+fn accepted(record: &Record, line: impl FnOnce(&Lent) -> String) -> String {
+    let (outcome, tables) = read(&record.file, PAIRS, MAPS);
+    match outcome {
+        Err(refusal) => format!("no {refusal}"),
+        Ok(fields) => {
+            let pairs: Vec<u32> = tables.pairs.iter().flatten().map(|word| *word as u32).collect();
+            let maps: Vec<u32> = tables.maps.iter().flatten().map(|word| *word as u32).collect();
+            line(&Lent { file: &record.file, pairs: &pairs, maps: &maps, fields })
+        }
+    }
 }
 
 fn main() -> std::io::Result<()> {
     records::run(|record: &Record| match record.kind {
         records::PARSE => parse(record),
+        records::LOOKUPS => accepted(record, lookups::line),
+        records::TX | records::SCRIPTED => accepted(record, |lent| transaction::line(lent, record)),
+        records::TABLES => tables::line(record),
         kind => unreachable!("kind {kind} is known but has no line"),
     })
 }

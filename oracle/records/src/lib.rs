@@ -1,7 +1,12 @@
 //! Records in and lines out, as the program `answers` reads and prints them.
 //!
 //! A record is one byte for its kind, three little-endian numbers of four bytes (pair room, map room, file length) and the
-//! file. Kind 0 is a parse. A cut record, an unknown kind or a length above `LONGEST` ends a run with the line `cut`.
+//! file. Kind 0 is a parse, 1 its lookups, 2 its transaction, 3 its transaction with scripts set, 4 tables that the record
+//! carries itself. A cut record, an unknown kind or a length above `LONGEST` ends a run with the line `cut`.
+
+mod body;
+
+pub use body::Body;
 
 use std::fmt::Write as _;
 use std::io::{self, Read, Write};
@@ -14,9 +19,21 @@ pub const LONGEST: usize = LIMIT + 1;
 pub const PAIRS: usize = 8_192;
 pub const MAPS: usize = 2_048;
 
+/// Room for a transaction's bytes: a greater map room of kinds 2 and 3 is clamped to it.
+pub const TX_ROOM: usize = 65_536;
+/// How many maps a line of lookups tells, and how many pairs of each.
+pub const MOST_MAPS: usize = 12;
+pub const MOST_PAIRS: usize = 24;
+/// How many bytes of a value such a line shows.
+pub const SHOWN: usize = 4;
+
 pub const PARSE: u8 = 0;
+pub const LOOKUPS: u8 = 1;
+pub const TX: u8 = 2;
+pub const SCRIPTED: u8 = 3;
+pub const TABLES: u8 = 4;
 /// The kinds that are known. A later kind is added here and never changes an earlier one.
-pub const KINDS: [u8; 1] = [PARSE];
+pub const KINDS: [u8; 5] = [PARSE, LOOKUPS, TX, SCRIPTED, TABLES];
 
 #[derive(Debug, Clone)]
 pub struct Record {
@@ -136,3 +153,111 @@ pub fn parse_line(outcome: &Result<Fields, u32>, tables: &Tables) -> String {
     }
     line
 }
+
+/// A line of words, each behind a space.
+pub struct Line(pub String);
+
+impl Line {
+    pub fn begun(word: &str) -> Self {
+        Line(word.to_string())
+    }
+
+    pub fn word(&mut self, word: impl std::fmt::Display) {
+        write!(self.0, " {word}").unwrap();
+    }
+
+    pub fn mark(&mut self, mark: &str) {
+        self.0.push_str(mark);
+    }
+
+    pub fn refusal(&mut self, number: u32) {
+        write!(self.0, " !{number}").unwrap();
+    }
+
+    /// A place in the file: where it begins and how long it is.
+    pub fn place(&mut self, start: usize, length: usize) {
+        write!(self.0, " {start}:{length}").unwrap();
+    }
+
+    pub fn looked(&mut self, looked: Result<Option<(usize, usize)>, u32>) {
+        match looked {
+            Ok(Some((start, length))) => self.place(start, length),
+            Ok(None) => self.word("-"),
+            Err(number) => self.refusal(number),
+        }
+    }
+
+    pub fn numbered(&mut self, number: Result<Option<u64>, u32>) {
+        match number {
+            Ok(Some(number)) => self.word(number),
+            Ok(None) => self.word("-"),
+            Err(number) => self.refusal(number),
+        }
+    }
+
+    /// A listing: the first pair's number in its map and how many there are.
+    pub fn listing(&mut self, listing: Result<(usize, usize), u32>) {
+        match listing {
+            Ok((first, count)) => write!(self.0, " {first}+{count}").unwrap(),
+            Err(number) => self.refusal(number),
+        }
+    }
+
+    pub fn hex(&mut self, bytes: &[u8]) {
+        self.0.push(' ');
+        if bytes.is_empty() {
+            self.0.push('=');
+        }
+        for byte in bytes {
+            write!(self.0, "{byte:02x}").unwrap();
+        }
+    }
+}
+
+/// The scripts that records of kind 3 give to the setter: numbers, three for each assignment (output, start, length), and the
+/// buffer that the scripts lie in. `ways` says which; `unscripted` are the outputs without a script.
+pub fn assignments(way: u32, outputs: u64, unscripted: &[u64]) -> (Vec<u64>, Vec<u8>) {
+    let mut buffer = Vec::new();
+    let mut list = Vec::new();
+    for output in unscripted {
+        list.extend([*output, buffer.len() as u64, 34]);
+        buffer.extend([0x51, 0x20]);
+        buffer.extend(output.to_le_bytes());
+        buffer.extend([0; 24]);
+    }
+    buffer.resize(34 * 512, 0);
+    let first: [u64; 3] = [0, 1, 2].map(|i| list.get(i).copied().unwrap_or(0));
+    let mut change = |at: usize, number: u64| {
+        if let Some(place) = list.get_mut(at) {
+            *place = number;
+        }
+    };
+    match way {
+        4 => buffer[0] = 0x52,
+        13 => buffer[1] = 0x21,
+        5 => change(2, 33),
+        14 => change(2, 35),
+        11 => change(1, buffer.len() as u64 - 33),
+        15 => change(0, u64::MAX),
+        _ => {}
+    }
+    match way {
+        1 => list.clear(),
+        2 => list.extend(first),
+        3 => list.extend([outputs, 0, 34]),
+        6 if list.len() >= 6 => {
+            list.swap(0, 3);
+            list.swap(1, 4);
+        }
+        7 => list.extend([0, 0, 34]),
+        10 => list.truncate(list.len().saturating_sub(3)),
+        12 => list.push(0),
+        _ => {}
+    }
+    (list, buffer)
+}
+
+/// The ways of `assignments`, and two of them that change the order of the steps.
+pub const WAYS: u32 = 16;
+pub const SET_TWICE: u32 = 8;
+pub const SET_LATE: u32 = 9;

@@ -1,0 +1,220 @@
+//! Records that carry their own tables: those of a file, mostly with something wrong about them.
+
+use crate::draft::Draft;
+use crate::random::Random;
+use crate::{valid, Sink};
+use records::{Body, TX_ROOM};
+use std::io::{self, Write};
+
+/// A taproot script, which stands behind the file.
+fn script() -> Vec<u8> {
+    [vec![0x51, 0x20], vec![7; 32]].concat()
+}
+
+/// A word near another, or at an edge.
+fn strange_word(random: &mut Random, word: u32, length: usize) -> u32 {
+    let length = length as u32;
+    let any = random.number() as u32;
+    random.pick(&[
+        word.wrapping_add(1),
+        word.wrapping_sub(1),
+        0,
+        1,
+        length,
+        length.wrapping_add(1),
+        length.wrapping_sub(1),
+        u32::MAX,
+        u32::MAX - 1,
+        1 << 31,
+        any,
+    ])
+}
+
+fn strange_count(random: &mut Random, count: u64) -> u64 {
+    let any = random.number();
+    random.pick(&[
+        count.wrapping_add(1),
+        count.wrapping_sub(1),
+        0,
+        count.wrapping_add(2),
+        u64::MAX,
+        u64::MAX - 1,
+        u64::MAX - count,
+        1 << 63,
+        count ^ (1 << 32),
+        any,
+    ])
+}
+
+/// What a file's own tables say, asked for something that it has, mostly.
+fn body(random: &mut Random, draft: &Draft) -> Body {
+    let (pairs, maps) = draft.tables();
+    let kinds: Vec<usize> = draft.maps.iter().map(|map| map.kind as usize).collect();
+    let count = |kind: usize| kinds.iter().filter(|k| **k == kind).count() as u64;
+    let (inputs, outputs) = (count(1), count(2));
+    let mut file = draft.bytes();
+    let behind = file.len() as u64;
+    file.extend(script());
+
+    // A map, and the number by which it is asked: of all maps, or of its kind.
+    let map = random.below(maps.len() as u64) as usize;
+    let own = match kinds[map] {
+        0 => 0,
+        1 => map as u64 - 1,
+        _ => map as u64 - 1 - inputs,
+    };
+    let key = match &draft.maps[map].pairs[..] {
+        [] => vec![0x04],
+        some => random.pick(some).key,
+    };
+    let unscripted: Vec<bool> =
+        draft.maps.iter().filter(|m| m.kind as usize == 2).map(|m| m.place(&[0x04]).is_none()).collect();
+    let list =
+        (0u64..).zip(&unscripted).filter(|(_, waits)| **waits).flat_map(|(output, _)| [output, behind, 34]).collect();
+    let entry = |waits: &bool| if *waits { [vec![1], script()].concat() } else { vec![0; 35] };
+    Body {
+        tx_version: random.pick(&[1, 2, 2, 0x7fff_ffff, 0x8000_0002]),
+        fallback: (random.below(2) as u8, random.number() as u32),
+        modifiable: (random.below(2) as u8, random.below(4) as u32),
+        inputs,
+        outputs,
+        state: random.pick(&[0, 0, 1, 1, 2, 3]),
+        asked: if random.once_in(2) { map as u64 } else { own },
+        pair: random.below(draft.maps[map].pairs.len() as u64 + 1),
+        key_type: key[0],
+        room: if random.once_in(8) { random.between(0, 200) } else { TX_ROOM },
+        pairs: pairs.into_iter().flatten().collect(),
+        maps: maps.into_iter().flatten().collect(),
+        scripts: unscripted.iter().flat_map(entry).collect(),
+        list,
+        data: key[1..].to_vec(),
+        file,
+    }
+}
+
+fn spoil(random: &mut Random, body: &mut Body) -> &'static str {
+    let length = body.file.len();
+    let at = |random: &mut Random, n: usize| random.below(n as u64) as usize;
+    match random.below(16) {
+        0..=2 if !body.pairs.is_empty() => {
+            let i = at(random, body.pairs.len());
+            body.pairs[i] = strange_word(random, body.pairs[i], length);
+            "a word of a pair"
+        }
+        3..=4 if !body.maps.is_empty() => {
+            let i = at(random, body.maps.len());
+            body.maps[i] = strange_word(random, body.maps[i], body.pairs.len() / 4);
+            "a word of a map"
+        }
+        5 => {
+            let count = if random.once_in(2) { &mut body.inputs } else { &mut body.outputs };
+            *count = strange_count(random, *count);
+            "a count"
+        }
+        6 => {
+            let words = if random.once_in(2) { &mut body.pairs } else { &mut body.maps };
+            words.truncate(words.len().saturating_sub(random.between(1, 6)));
+            "a table that ends early"
+        }
+        7 if body.pairs.len() >= 8 => {
+            // Two pairs change places, or one stands twice.
+            let (i, j) = (4 * at(random, body.pairs.len() / 4), 4 * at(random, body.pairs.len() / 4));
+            let twice = random.once_in(2);
+            for word in 0..4 {
+                if twice {
+                    body.pairs[i + word] = body.pairs[j + word];
+                } else {
+                    body.pairs.swap(i + word, j + word);
+                }
+            }
+            "pairs swapped or doubled"
+        }
+        8 if body.maps.len() >= 4 => {
+            let (i, j) = (2 * at(random, body.maps.len() / 2), 2 * at(random, body.maps.len() / 2));
+            body.maps[i] = body.maps[j];
+            body.maps[i + 1] = body.maps[j + 1];
+            "maps that share pairs"
+        }
+        9 => {
+            body.asked = strange_count(random, body.asked);
+            "a strange number"
+        }
+        10 => {
+            match random.below(4) {
+                0 => body.data.push(0),
+                1 => {
+                    body.data.pop();
+                }
+                2 => body.key_type = body.key_type.wrapping_add(1),
+                _ => body.pair = strange_count(random, body.pair),
+            }
+            "another key"
+        }
+        11 => {
+            match random.below(4) {
+                0 => body.scripts.truncate(body.scripts.len().saturating_sub(1)),
+                1 => body.scripts.extend([9; 40]),
+                _ if body.scripts.is_empty() => {}
+                _ => {
+                    let i = at(random, body.scripts.len());
+                    body.scripts[i] = random.pick(&[0, 1, 2, 0x20, 0x51, 0x52]);
+                }
+            }
+            "a script table"
+        }
+        12 => {
+            match random.below(4) {
+                0 => {
+                    body.list.pop();
+                }
+                1 => body.list.extend([body.outputs, length as u64 - 34, 34]),
+                _ if body.list.is_empty() => {}
+                _ => {
+                    let i = at(random, body.list.len());
+                    body.list[i] = strange_count(random, body.list[i]);
+                }
+            }
+            "a list"
+        }
+        13 => {
+            body.file.truncate(length - random.between(1, 40).min(length));
+            "a file that ends early"
+        }
+        14 => {
+            let i = at(random, length.max(1));
+            if let Some(byte) = body.file.get_mut(i) {
+                *byte ^= 1 << random.below(8);
+            }
+            "a byte of the file"
+        }
+        _ => {
+            // A value of a sized field with another length.
+            if !body.pairs.is_empty() {
+                let i = 4 * at(random, body.pairs.len() / 4);
+                if let Some(word) = body.pairs.get_mut(i + 3) {
+                    *word = word.wrapping_add(random.pick(&[1, u32::MAX]));
+                }
+            }
+            "a value's length"
+        }
+    }
+}
+
+pub fn generated<W: Write>(seed: u64, sink: &mut Sink<W>) -> io::Result<()> {
+    let mut random = Random::new(seed);
+    loop {
+        let draft = if random.once_in(2) { valid::draft(&mut random) } else { valid::rich_draft(&mut random) };
+        if draft.size().0 > 2_000 {
+            continue;
+        }
+        let mut body = body(&mut random, &draft);
+        let mut what = "tables of the file";
+        for _ in 0..random.pick(&[0, 1, 1, 1, 2, 3]) {
+            what = spoil(&mut random, &mut body);
+        }
+        let record = body.record();
+        if !sink.put_kind(record.kind, what, (record.pair_room, record.map_room), &record.file)? {
+            return Ok(());
+        }
+    }
+}
