@@ -40,27 +40,28 @@ pub front-start : (a b : List ℕ) → Front a b 0
 unfolding orderFrom
 front-start a b = record { on = refl; in-a = omega arith }
 
+-- the eight bytes from i on, and what follows them
+module _ (s : List ℕ) (i : ℕ) where
+  eight-length : i + 8 ≤ length s → length (take 8 (drop i s)) ≡ 8
+  eight-length l = rw (length-take, length-drop) (omega arith)
+
+  eight-bytes : Bytes8 s → All Byte (take 8 (drop i s))
+  eight-bytes m = all-take 8 (drop i s) (all-drop i s (bytes-all s m))
+
+  eight-more : take 8 (drop i s) ++ drop (i + 8) s ≡ drop i s
+  eight-more = rw (sym (drop-drop 8 i s)) (take-append-drop 8 (drop i s))
+
 module _ (a b : List ℕ) (i : ℕ) (f : Front a b i) where
   pub front-on : orderFrom i a b ≡ order a b
   front-on = f .on
-
-  front : (s : List ℕ) → i + 8 ≤ length s → length (take 8 (drop i s)) ≡ 8
-  front s l = rw (length-take, length-drop) (omega arith)
-
-  all : (s : List ℕ) → Bytes8 s → All Byte (take 8 (drop i s))
-  all s m = all-take 8 (drop i s) (all-drop i s (bytes-all s m))
-
-  split : (s : List ℕ) → take 8 (drop i s) ++ drop (i + 8) s ≡ drop i s
-  split s = rw (sym (drop-drop 8 i s)) (take-append-drop 8 (drop i s))
 
   -- eight bytes on, where both have the same
   pub front-more : (x y : ℕ) → i + 8 ≤ length a → i + 8 ≤ length b → x ≡ eightAt a i → y ≡ eightAt b i → x ≡ y → Bytes8 a → Bytes8 b → Front a b (i + 8)
   unfolding orderFrom eightAt
   front-more x y h k e g q m n =
-      let p : take 8 (drop i a) ≡ take 8 (drop i b) = same-bytes _ _ (front a h ∙ sym (front b k)) (all a m) (all b n) (sym e ∙ q ∙ g) in
-      record {
-        on = sym (order-behind (take 8 (drop i b)) (drop (i + 8) a) (drop (i + 8) b)) ∙ ap₂ order (ap (λ (t : List ℕ). t ++ drop (i + 8) a) (sym p) ∙ split a) (split b) ∙ f .on;
-        in-a = h;
-      }
+      let l = eight-length a i h ∙ sym (eight-length b i k) in
+      let p : take 8 (drop i a) ≡ take 8 (drop i b) = same-bytes _ _ l (eight-bytes a i m) (eight-bytes b i n) (sym e ∙ q ∙ g) in
+      let c = ap (λ (t : List ℕ). t ++ drop (i + 8) a) (sym p) ∙ eight-more a i in
+      record { on = sym (order-behind (take 8 (drop i b)) (drop (i + 8) a) (drop (i + 8) b)) ∙ ap₂ order c (eight-more b i) ∙ f .on; in-a = h }
 
 pub ruleset blocks = (front-start, front-on)

@@ -68,15 +68,16 @@ pub struct Seen {
     pub label: bool,
 }
 
-// What is carried along a file: the kind of the map that is read, the global fields, how many inputs and outputs
-// are still to come, what the output that is read has, and what the rules say of the outputs so far.
+// What is carried along a file: the global fields, how many inputs and outputs are still to come, what the output that
+// is read has, what the rules say of the outputs so far, and the kind of the map that is read (last, where it leaves
+// no gap before the wider fields: copying one costs time at each pair).
 pub struct Walk {
-    pub kind: u8,
     pub globals: Globals,
     pub inputs: u64,
     pub outputs: u64,
     pub seen: Seen,
     pub ruled: Ruled,
+    pub kind: u8,
 }
 
 // What is carried on where a map ended, or the refusal.
