@@ -1,3 +1,4 @@
 pub mod Rows
+pub mod Types
 pub mod Fronts
 pub mod Free

@@ -52,7 +52,7 @@ module _ (r : SizedType) (n m : ℕ) where
 pub ruleset row = (kept-bare, kept-not, fit-value, fit-not, rule-kept, rule-fits, rule-breach)
 
 -- what a row past the end would be
-abbrev none : SizedType
+abbrev pub none : SizedType
 none = record { kind = 0; tag = 0; dlen = 0; vlen = 0; bare = false }
 
 module _ (rs : List SizedType) (k t n m i : ℕ) (h : i < length rs) (b : Bool) (e : b ≡ isRow (getD rs i none) k t) where

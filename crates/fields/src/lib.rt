@@ -31,7 +31,7 @@ use format::SizedType;
 ghost use mathlib.Core.Path.{_≡_};
 ghost use Rattle.format.specs.Compact.{size, countBy};
 ghost use Rattle.format.specs.Rules.{valueFits, isRow, rowRule, sizesIn, sizes, countRule};
-ghost use Rattle.fields.specs.Rows.{isKept, bothFit};
+ghost use Rattle.fields.specs.Rows.{isKept, bothFit, hasType};
 ghost use Rattle.fields.specs.Fronts.{isCount, bareRuleBy, isBare, ruleBy};
 
 // The value length of a row that marks a key origin.
@@ -253,11 +253,30 @@ fn sizes_in(
     Ruled::Passed
 }
 
-// What the table says of a pair's lengths.
+// Some row is about this type, in maps of whatever kind.
+fn has_type(rows: [SizedType; 19], key_type: u8) -> bool
+    ensures { λ r. ⌜ r ≡ hasType rows «key_type» ⌝ }
+{
+    let mut i: usize = 0;
+    while i < rows.len() {
+        let row = rows[i];
+        if row.tag == key_type {
+            return true;
+        }
+        i = i + 1;
+    }
+    false
+}
+
+// What the table says of a pair's lengths. A type with no row is free, and is told by the types alone.
 pub fn check_sizes(kind: u8, key_type: u8, key_data_len: usize, value_len: usize) -> Ruled
     ensures { λ r. ⌜ r ≡ sizes kind «key_type» «key_data_len» «value_len» ⌝ }
 {
-    sizes_in(SIZED_TYPES, kind, key_type, key_data_len, value_len)
+    if has_type(SIZED_TYPES, key_type) {
+        sizes_in(SIZED_TYPES, kind, key_type, key_data_len, value_len)
+    } else {
+        Ruled::Passed
+    }
 }
 
 // A type whose value is a count, in a global key without data.

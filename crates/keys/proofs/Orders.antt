@@ -1,5 +1,5 @@
 -- Laws of comparing two keys byte by byte: the order from a place on is the order of the whole as long as the bytes before it are equal.
-use mathlib.Core.Path.{_≡_, refl}
+use mathlib.Core.Path.{_≡_}
 use mathlib.Core.List.{List}
 use Prim.Native.Nat.{ℕ, _+_, _≤_, _<_}
 use native.Mathlib.Omega.{arith}
@@ -8,14 +8,16 @@ use borrow.Author.Tests.{lt-ltb, le-ltb}
 use lib.ListN.{length, drop, getD, drop-of-length-le}
 use lib.Seq.{drop-cons}
 use Rattle.format.specs.Keys.{order}
+use Rattle.keys.specs.Fronts.{orderFrom}
 use Rattle.format.specs.declared.Order.the-variants.{Below, Same, Above}
 
 -- from i on the order is that of the whole
 abbrev pub On : List ℕ → List ℕ → ℕ → Type 0
 On a b i = order (drop i a) (drop i b) ≡ order a b
 
-pub on-start : (a b : List ℕ) → On a b 0
-on-start a b = refl
+pub on-from : (a b : List ℕ) (i : ℕ) → orderFrom i a b ≡ order a b → On a b i
+unfolding orderFrom
+on-from a b i e = e
 
 module _ (a b : List ℕ) (i : ℕ) (on : On a b i) where
   pub is-same : length a ≤ i → length b ≤ i → Same ≡ order a b
@@ -45,4 +47,4 @@ module _ (a b : List ℕ) (i : ℕ) (on : On a b i) where
   on-more h k l m =
       rw add-one (rw (drop-cons a i 0 h, drop-cons b i 0 k, le-ltb (getD a i 0) (getD b i 0) l, le-ltb (getD b i 0) (getD a i 0) m) at on)
 
-pub ruleset orders = (on-start, is-same, is-prefix, is-longer, is-below, is-above, on-more)
+pub ruleset orders = (on-from, is-same, is-prefix, is-longer, is-below, is-above, on-more)

@@ -10,7 +10,7 @@ use Rattle.format.specs.declared.PsbtError.the-variants.{UnexpectedEof}
 use Rattle.format.specs.declared.Ruled.{Ruled}
 use Rattle.format.specs.declared.Ruled.the-variants.{Passed, Refused}
 use Rattle.format.specs.declared.Psbt.{Psbt}
-use Rattle.psbt.specs.Walks.{unseen, countOf, globalsRule, psbtFrom, flags, seenRule, closeGlobal, closeOutput, close, finishBy, finish, anInput, anOutput, start, afterBy, after}
+use Rattle.psbt.specs.Walks.{unseen, globalsRule, psbtFrom, flags, seenRule, closeGlobal, closeOutput, close, finishBy, finish, anInput, anOutput, start, afterBy, after}
 use Rattle.psbt.specs.declared.Walk.{Walk}
 use Rattle.psbt.specs.declared.Closed.{Closed}
 use Rattle.psbt.specs.declared.Closed.the-variants.{Bad, Good}
@@ -34,11 +34,10 @@ module _ (w : Walk) (y : Ruled) (is : y ≡ globalsRule (w .globals)) where
   unfolding closeGlobal
   close-bad e h = sym (ap (closeGlobal w) (sym is ∙ h))
 
-  pub close-good : (i o : ℕ) → y ≡ Passed → i ≡ countOf (w .globals .«n_inputs») → o ≡ countOf (w .globals .«n_outputs»)
-      → Good (record { kind = w .kind; globals = w .globals; inputs = i; outputs = o; seen = w .seen; ruled = w .ruled }) ≡ closeGlobal w (globalsRule (w .globals))
+  pub close-good : y ≡ Passed
+      → Good (record { kind = w .kind; globals = w .globals; inputs = w .globals .«n_inputs»; outputs = w .globals .«n_outputs»; seen = w .seen; ruled = w .ruled }) ≡ closeGlobal w (globalsRule (w .globals))
   unfolding closeGlobal
-  close-good i o h p q =
-      (λ j. Good (record { kind = w .kind; globals = w .globals; inputs = p j; outputs = q j; seen = w .seen; ruled = w .ruled })) ∙ sym (ap (closeGlobal w) (sym is ∙ h))
+  close-good h = sym (ap (closeGlobal w) (sym is ∙ h))
 
 pub ruleset closeGlobals = (close-bad, close-good)
 

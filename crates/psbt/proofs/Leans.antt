@@ -26,7 +26,7 @@ use Rattle.format.proofs.Numbers.{All}
 use Rattle.laws.specs.Fine.{Rises, Keeps}
 use Rattle.laws.proofs.Items.{ItemIs, item-is}
 use Rattle.laws.proofs.Files.{pair-some}
-use Rattle.psbt.specs.Walks.{note, withGlobals, withSeen, atFirst, unseen, globalsRule, psbtFrom, seenRule, countOf, closeGlobal, closeOutput, close, finishBy, finish, anInput, anOutput, start, afterBy, after}
+use Rattle.psbt.specs.Walks.{note, withGlobals, withSeen, atFirst, unseen, globalsRule, psbtFrom, seenRule, closeGlobal, closeOutput, close, finishBy, finish, anInput, anOutput, start, afterBy, after}
 use Rattle.psbt.specs.Leans.{Lean, done, refusal, begins, pair, ended, lean, cutLean, left, goOn, walkTurn, go, walk}
 use Rattle.psbt.specs.declared.Walk.{Walk}
 use Rattle.psbt.specs.declared.Next.{Next}

@@ -29,9 +29,7 @@ use Rattle.format.proofs.Numbers.{All}
 use Rattle.laws.specs.Fine.{Rises, Keeps}
 use Rattle.wire.specs.Leads.{lead}
 use Rattle.wire.proofs.Bounds.{count-read}
-use Rattle.psbt.specs.Walks.{notedBy, asNumber, asCount, asThere, noted, notedCount, notedThere, noteGlobal, noteOutput, withGlobals, withSeen, note, noGlobals, unseen, there, countThere, countOf, allThere, versionRule, globalsRule, psbtFrom, flags, seenRule}
-use Rattle.psbt.specs.declared.Count.{Count}
-use Rattle.psbt.specs.declared.Count.the-variants as C
+use Rattle.psbt.specs.Walks.{notedBy, asNumber, asCount, asThere, noted, notedCount, notedThere, noteGlobal, noteOutput, withGlobals, withSeen, note, noGlobals, unseen, there, allThere, versionRule, globalsRule, psbtFrom, flags, seenRule}
 use Rattle.psbt.specs.declared.Globals.{Globals}
 use Rattle.psbt.specs.declared.Seen.{Seen}
 use Rattle.psbt.specs.declared.Walk.{Walk}
@@ -100,10 +98,6 @@ counted-is v (Read n u) q h = rw q (unfold sizeValue in ap sizeValue (sym (count
 counted-is v (Bad e) q h = let z : _≡_ {A = ℕ} 0 1 = cc in absurd (omega arith)
 
 -- what noting gives from nothing on, by what is found
-unfoldable pub countFound : Found → Count
-countFound absent = C.Absent
-countFound (found v) = C.Present (sizeValue (size v))
-
 module _ (ps : List Pair) (h : Rises [] ps) (a : All (Keeps GLOBAL) ps) where
   number-along : (t m : ℕ) → m ≤ 4 → ((n : ℕ) → sizes GLOBAL t 0 n ≡ pick (eqb n m) Passed (Refused BadValue)) → alongBy asNumber t ps Absent ≡ maybe (field t ps)
   unfolding orOld maybe asNumber lead field
@@ -115,13 +109,13 @@ module _ (ps : List Pair) (h : Rises [] ps) (a : All (Keeps GLOBAL) ps) where
           let e : length v ≡ m = global-sized t m v is (found-keeps GLOBAL (keyOf t []) ps v a q) in
           ap (λ (x : List ℕ). Present (le x)) (take-all 4 v (omega arith))
 
-  count-along : (t : ℕ) → ((v : List ℕ) → rule GLOBAL (keyOf t []) v ≡ countRule (count v)) → alongBy asCount t ps C.Absent ≡ countFound (field t ps)
-  unfolding orOld countFound asCount field
-  count-along t is = along-is asCount t [] ps C.Absent h ∙ by (field t ps) refl
+  count-along : (t : ℕ) → ((v : List ℕ) → rule GLOBAL (keyOf t []) v ≡ countRule (count v)) → alongBy asCount t ps 0 ≡ counted (field t ps)
+  unfolding orOld counted asCount field
+  count-along t is = along-is asCount t [] ps 0 h ∙ by (field t ps) refl
     where
-      by : (f : Found) → field t ps ≡ f → orOld asCount f C.Absent ≡ countFound f
+      by : (f : Found) → field t ps ≡ f → orOld asCount f 0 ≡ counted f
       by absent q = refl
-      by (found v) q = ap C.Present (counted-is v (count v) refl (sym (is v) ∙ found-keeps GLOBAL (keyOf t []) ps v a q))
+      by (found v) q = counted-is v (count v) refl (sym (is v) ∙ found-keeps GLOBAL (keyOf t []) ps v a q)
 
 there-along : (t : ℕ) (ps : List Pair) → Rises [] ps → alongBy asThere t ps false ≡ present (field t ps)
 unfolding orOld present asThere
@@ -145,6 +139,8 @@ globalsAlong ps g = record {
   «n_outputs» = alongBy asCount 0x05 ps (g .«n_outputs»);
   «tx_modifiable» = alongBy asNumber 0x06 ps (g .«tx_modifiable»);
   «psbt_version» = alongBy asNumber 0xfb ps (g .«psbt_version»);
+  «has_inputs» = alongBy asThere 0x04 ps (g .«has_inputs»);
+  «has_outputs» = alongBy asThere 0x05 ps (g .«has_outputs»);
 }
 
 -- those of an output
@@ -164,7 +160,7 @@ unfolding note
 note-output w key v k = rw k
 
 global-all : (w : Walk) (ps : List Pair) → w .kind ≡ GLOBAL → noteAll w ps ≡ withGlobals w (globalsAlong ps (w .globals))
-unfolding noteAll withGlobals globalsAlong alongBy noteGlobal noted notedCount
+unfolding noteAll withGlobals globalsAlong alongBy noteGlobal noted notedCount notedThere
 global-all w [] k = refl
 global-all w (p ∷ ps) k = rw (note-global w (p .key) (p .value) k) (global-all (withGlobals w (noteGlobal (p .key) (p .value) (w .globals))) ps k)
 
@@ -178,10 +174,12 @@ unfoldable pub foundGlobals : List Pair → Globals
 foundGlobals ps = record {
   «tx_version» = maybe (field 0x02 ps);
   «fallback_locktime» = maybe (field 0x03 ps);
-  «n_inputs» = countFound (field 0x04 ps);
-  «n_outputs» = countFound (field 0x05 ps);
+  «n_inputs» = counted (field 0x04 ps);
+  «n_outputs» = counted (field 0x05 ps);
   «tx_modifiable» = maybe (field 0x06 ps);
   «psbt_version» = maybe (field 0xfb ps);
+  «has_inputs» = present (field 0x04 ps);
+  «has_outputs» = present (field 0x05 ps);
 }
 
 pub global-noted : (w : Walk) (ps : List Pair) → w .kind ≡ GLOBAL → w .globals ≡ noGlobals → Rises [] ps → All (Keeps GLOBAL) ps → noteAll w ps ≡ withGlobals w (foundGlobals ps)
@@ -195,6 +193,8 @@ global-noted w ps k g h a =
       count-along ps h a 0x05 (λ v. refl),
       number-along ps h a 0x06 1 (omega arith) (λ n. refl),
       number-along ps h a 0xfb 4 (omega arith) (λ n. refl),
+      there-along 0x04 ps h,
+      there-along 0x05 ps h,
     )
 
 -- what an output has, as it is found
@@ -226,23 +226,13 @@ unfolding there maybe present
 there-maybe absent = refl
 there-maybe (found v) = refl
 
-there-count : (f : Found) → countThere (countFound f) ≡ present f
-unfolding countThere countFound present
-there-count absent = refl
-there-count (found v) = refl
-
-count-of : (f : Found) → countOf (countFound f) ≡ counted f
-unfolding countOf countFound counted
-count-of absent = refl
-count-of (found v) = refl
-
 pub psbt-from : (ps : List Pair) → psbtFrom (foundGlobals ps) ≡ psbtOf ps
 unfolding psbtFrom foundGlobals psbtOf
-psbt-from ps = rw (zero-maybe (field 0x02 ps), count-of (field 0x04 ps), count-of (field 0x05 ps))
+psbt-from ps = rw (zero-maybe (field 0x02 ps))
 
 pub global-rule : (ps : List Pair) → globalsRule (foundGlobals ps) ≡ globalRule ps
 unfolding globalsRule allThere versionRule foundGlobals globalRule
-global-rule ps = rw (there-maybe (field 0x02 ps), there-count (field 0x04 ps), there-count (field 0x05 ps), there-maybe (field 0xfb ps), zero-maybe (field 0xfb ps))
+global-rule ps = rw (there-maybe (field 0x02 ps), there-maybe (field 0xfb ps), zero-maybe (field 0xfb ps))
 
 pub flags-are : (ps : List Pair) → flags (maybe (field 0x06 ps)) ≡ modifiable (field 0x06 ps)
 unfolding flags modifiable
@@ -252,10 +242,10 @@ pub seen-rule : (g ps : List Pair) → seenRule (foundGlobals g) (foundSeen ps) 
 unfolding seenRule foundGlobals foundSeen outputRule
 seen-rule g ps = rw (flags-are g)
 
-pub inputs-counted : (ps : List Pair) → countOf (foundGlobals ps .«n_inputs») ≡ counted (field 0x04 ps)
+pub inputs-counted : (ps : List Pair) → foundGlobals ps .«n_inputs» ≡ counted (field 0x04 ps)
 unfolding foundGlobals
-inputs-counted ps = count-of (field 0x04 ps)
+inputs-counted ps = refl
 
-pub outputs-counted : (ps : List Pair) → countOf (foundGlobals ps .«n_outputs») ≡ counted (field 0x05 ps)
+pub outputs-counted : (ps : List Pair) → foundGlobals ps .«n_outputs» ≡ counted (field 0x05 ps)
 unfolding foundGlobals
-outputs-counted ps = count-of (field 0x05 ps)
+outputs-counted ps = refl

@@ -27,13 +27,11 @@ use Rattle.format.proofs.Tests.{no-by, pick-by}
 use Rattle.format.proofs.Keys.{same-is, same-self}
 use Rattle.wire.specs.Leads.{lead}
 use Rattle.format.specs.Locks.{orZero}
-use Rattle.psbt.specs.Walks.{notedBy, asNumber, asCount, asThere, noted, notedCount, notedThere, noteGlobal, noteOutput, withGlobals, withSeen, note, there, countThere, countOf, allThere, versionRule, globalsRule, psbtFrom, flags}
+use Rattle.psbt.specs.Walks.{notedBy, asNumber, asCount, asThere, noted, notedCount, notedThere, noteGlobal, noteOutput, withGlobals, withSeen, note, there, allThere, versionRule, globalsRule, psbtFrom, flags}
 use Rattle.psbt.proofs.Notes.{note-global, note-output}
 use Rattle.psbt.specs.declared.Globals.{Globals}
 use Rattle.psbt.specs.declared.Seen.{Seen}
 use Rattle.psbt.specs.declared.Walk.{Walk}
-use Rattle.psbt.specs.declared.Count.{Count}
-use Rattle.psbt.specs.declared.Count.the-variants as C
 
 -- a key is a type without data
 bare-byte : (t x : ℕ) → eqb x t ≡ same (t ∷ []) (x ∷ [])
@@ -84,11 +82,11 @@ module _ (t : ℕ) (key v : List ℕ) (b : Bool) (is : b ≡ same (keyOf t []) k
   unfolding noted
   noted-no old h = by-no asNumber old h
 
-  pub count-yes : (z : Size) (x : ℕ) (old : Count) → b ≡ true → z ≡ count v → x ≡ sizeValue z → C.Present x ≡ notedCount t key v old
+  pub count-yes : (z : Size) (x old : ℕ) → b ≡ true → z ≡ count v → x ≡ sizeValue z → x ≡ notedCount t key v old
   unfolding notedCount asCount
-  count-yes z x old h e f = ap C.Present (f ∙ ap sizeValue e) ∙ by-yes asCount old h
+  count-yes z x old h e f = f ∙ ap sizeValue e ∙ by-yes asCount old h
 
-  pub count-no : (old : Count) → b ≡ false → old ≡ notedCount t key v old
+  pub count-no : (old : ℕ) → b ≡ false → old ≡ notedCount t key v old
   unfolding notedCount
   count-no old h = by-no asCount old h
 
@@ -120,32 +118,17 @@ module _ (m : Maybe) where
   unfolding orZero
   zero-present n h = sym (ap orZero h)
 
-module _ (c : Count) where
-  pub counted-absent : c ≡ C.Absent → false ≡ countThere c
-  unfolding countThere
-  counted-absent h = sym (ap countThere h)
-
-  pub counted-present : (n : ℕ) → c ≡ C.Present n → true ≡ countThere c
-  unfolding countThere
-  counted-present n h = sym (ap countThere h)
-
-  pub count-absent : c ≡ C.Absent → 0 ≡ countOf c
-  unfolding countOf
-  count-absent h = sym (ap countOf h)
-
-  pub count-present : (n : ℕ) → c ≡ C.Present n → n ≡ countOf c
-  unfolding countOf
-  count-present n h = sym (ap countOf h)
-
-pub ruleset maybes = (there-absent, there-present, zero-absent, zero-present, counted-absent, counted-present, count-absent, count-present)
+pub ruleset maybes = (there-absent, there-present, zero-absent, zero-present)
 
 -- the fields noted together
-pub note-fields : (g : Globals) (key v : List ℕ) (a b : Maybe) (c d : Count) (e f : Maybe)
+pub note-fields : (g : Globals) (key v : List ℕ) (a b : Maybe) (c d : ℕ) (e f : Maybe) (x y : Bool)
     → a ≡ noted 0x02 key v (g .«tx_version») → b ≡ noted 0x03 key v (g .«fallback_locktime») → c ≡ notedCount 0x04 key v (g .«n_inputs»)
     → d ≡ notedCount 0x05 key v (g .«n_outputs») → e ≡ noted 0x06 key v (g .«tx_modifiable») → f ≡ noted 0xfb key v (g .«psbt_version»)
-    → record { «tx_version» = a; «fallback_locktime» = b; «n_inputs» = c; «n_outputs» = d; «tx_modifiable» = e; «psbt_version» = f } ≡ noteGlobal key v g
-unfolding noteGlobal
-note-fields g key v a b c d e f p q r s t u = λ i. record { «tx_version» = p i; «fallback_locktime» = q i; «n_inputs» = r i; «n_outputs» = s i; «tx_modifiable» = t i; «psbt_version» = u i }
+    → x ≡ notedThere 0x04 key [] (g .«has_inputs») → y ≡ notedThere 0x05 key [] (g .«has_outputs»)
+    → record { «tx_version» = a; «fallback_locktime» = b; «n_inputs» = c; «n_outputs» = d; «tx_modifiable» = e; «psbt_version» = f; «has_inputs» = x; «has_outputs» = y } ≡ noteGlobal key v g
+unfolding noteGlobal notedThere notedBy asThere
+note-fields g key v a b c d e f x y p q r s t u m n =
+    λ i. record { «tx_version» = p i; «fallback_locktime» = q i; «n_inputs» = r i; «n_outputs» = s i; «tx_modifiable» = t i; «psbt_version» = u i; «has_inputs» = m i; «has_outputs» = n i }
 
 pub note-seen : (o : Seen) (key v : List ℕ) (a b c : Bool) → a ≡ notedThere 0x04 key v (o .script) → b ≡ notedThere 0x09 key v (o .code) → c ≡ notedThere 0x0a key v (o .label)
     → record { script = a; code = b; label = c } ≡ noteOutput key v o
@@ -180,10 +163,10 @@ module _ (w : Walk) (key v : List ℕ) where
 pub ruleset pairNotes = (note-wide, note-g, note-o, note-i)
 
 -- all that has to be in the global map
-pub all-there : (g : Globals) (a b c d x y z : Bool) → a ≡ there (g .«tx_version») → b ≡ countThere (g .«n_inputs») → c ≡ countThere (g .«n_outputs») → d ≡ there (g .«psbt_version»)
-    → x ≡ (c && d) → y ≡ (b && x) → z ≡ (a && y) → z ≡ allThere g
+pub all-there : (g : Globals) (a d x y z : Bool) → a ≡ there (g .«tx_version») → d ≡ there (g .«psbt_version»)
+    → x ≡ (g .«has_outputs» && d) → y ≡ (g .«has_inputs» && x) → z ≡ (a && y) → z ≡ allThere g
 unfolding allThere
-all-there g a b c d x y z p q r s t u v = v ∙ rw (u, t, p, q, r, s)
+all-there g a d x y z p q t u v = v ∙ rw (u, t, p, q)
 
 module _ (m : Maybe) (n : ℕ) (e : n ≡ orZero m) where
   pub version-two : n ≡ 2 → Passed ≡ versionRule m
@@ -239,10 +222,10 @@ module _ (f s c l : Bool) where
 pub ruleset outputs = (out-none, out-code, out-script, out-label, out-flags, out-both)
 
 -- what is reported
-pub report : (g : Globals) (n i o : ℕ) (z : ℤ) → n ≡ orZero (g .«tx_version») → z ≡ signed n → i ≡ countOf (g .«n_inputs») → o ≡ countOf (g .«n_outputs»)
-    → record { «tx_version» = z; «fallback_locktime» = g .«fallback_locktime»; «tx_modifiable» = g .«tx_modifiable»; inputs = i; outputs = o } ≡ psbtFrom g
+pub report : (g : Globals) (n : ℕ) (z : ℤ) → n ≡ orZero (g .«tx_version») → z ≡ signed n
+    → record { «tx_version» = z; «fallback_locktime» = g .«fallback_locktime»; «tx_modifiable» = g .«tx_modifiable»; inputs = g .«n_inputs»; outputs = g .«n_outputs» } ≡ psbtFrom g
 unfolding psbtFrom
-report g n i o z p q r s = λ j. record { «tx_version» = (q ∙ ap signed p) j; «fallback_locktime» = g .«fallback_locktime»; «tx_modifiable» = g .«tx_modifiable»; inputs = r j; outputs = s j }
+report g n z p q = λ j. record { «tx_version» = (q ∙ ap signed p) j; «fallback_locktime» = g .«fallback_locktime»; «tx_modifiable» = g .«tx_modifiable»; inputs = g .«n_inputs»; outputs = g .«n_outputs» }
 
 -- the two low flags
 pub low-flags : (m : Maybe) (n : ℕ) → n ≡ orZero m → not (eqb (bitAnd n 3) 0) ≡ flags m

@@ -17,8 +17,6 @@ use Rattle.format.specs.declared.Maybe.{Maybe}
 use Rattle.format.specs.declared.Maybe.the-variants.{Absent, Present}
 use Rattle.format.specs.declared.Psbt.{Psbt}
 use Rattle.wire.specs.Leads.{lead}
-use Rattle.psbt.specs.declared.Count.{Count}
-use Rattle.psbt.specs.declared.Count.the-variants as C
 use Rattle.psbt.specs.declared.Globals.{Globals}
 use Rattle.psbt.specs.declared.Seen.{Seen}
 use Rattle.psbt.specs.declared.Walk.{Walk}
@@ -35,8 +33,8 @@ notedBy read t key v old = pick (same (keyOf t []) key) (read v) old
 unfoldable pub asNumber : List ℕ → Maybe
 asNumber v = Present (lead 4 v)
 
-unfoldable pub asCount : List ℕ → Count
-asCount v = C.Present (sizeValue (count v))
+unfoldable pub asCount : List ℕ → ℕ
+asCount v = sizeValue (count v)
 
 unfoldable pub asThere : List ℕ → Bool
 asThere v = true
@@ -44,7 +42,7 @@ asThere v = true
 unfoldable pub noted : ℕ → List ℕ → List ℕ → Maybe → Maybe
 noted t key v old = notedBy asNumber t key v old
 
-unfoldable pub notedCount : ℕ → List ℕ → List ℕ → Count → Count
+unfoldable pub notedCount : ℕ → List ℕ → List ℕ → ℕ → ℕ
 notedCount t key v old = notedBy asCount t key v old
 
 unfoldable pub notedThere : ℕ → List ℕ → List ℕ → Bool → Bool
@@ -59,6 +57,8 @@ noteGlobal key v g = record {
   «n_outputs» = notedCount 0x05 key v (g .«n_outputs»);
   «tx_modifiable» = noted 0x06 key v (g .«tx_modifiable»);
   «psbt_version» = noted 0xfb key v (g .«psbt_version»);
+  «has_inputs» = notedThere 0x04 key v (g .«has_inputs»);
+  «has_outputs» = notedThere 0x05 key v (g .«has_outputs»);
 }
 
 -- a pair of an output
@@ -86,10 +86,12 @@ abbrev pub noGlobals : Globals
 noGlobals = record {
   «tx_version» = Absent;
   «fallback_locktime» = Absent;
-  «n_inputs» = C.Absent;
-  «n_outputs» = C.Absent;
+  «n_inputs» = 0;
+  «n_outputs» = 0;
   «tx_modifiable» = Absent;
   «psbt_version» = Absent;
+  «has_inputs» = false;
+  «has_outputs» = false;
 }
 
 abbrev pub unseen : Seen
@@ -102,17 +104,9 @@ unfoldable pub there : Maybe → Bool
 there Absent = false
 there (Present n) = true
 
-unfoldable pub countThere : Count → Bool
-countThere C.Absent = false
-countThere (C.Present n) = true
-
-unfoldable pub countOf : Count → ℕ
-countOf C.Absent = 0
-countOf (C.Present n) = n
-
 -- all that has to be in the global map is there
 unfoldable pub allThere : Globals → Bool
-allThere g = there (g .«tx_version») && (countThere (g .«n_inputs») && (countThere (g .«n_outputs») && there (g .«psbt_version»)))
+allThere g = there (g .«tx_version») && (g .«has_inputs» && (g .«has_outputs» && there (g .«psbt_version»)))
 
 -- its version is 2
 unfoldable pub versionRule : Maybe → Ruled
@@ -128,8 +122,8 @@ psbtFrom g = record {
   «tx_version» = signed (orZero (g .«tx_version»));
   «fallback_locktime» = g .«fallback_locktime»;
   «tx_modifiable» = g .«tx_modifiable»;
-  inputs = countOf (g .«n_inputs»);
-  outputs = countOf (g .«n_outputs»);
+  inputs = g .«n_inputs»;
+  outputs = g .«n_outputs»;
 }
 
 -- any of the two low flags is set
@@ -144,7 +138,7 @@ seenRule g o = outputBy (flags (g .«tx_modifiable»)) (o .script) (o .code) (o 
 unfoldable pub closeGlobal : Walk → Ruled → Closed
 closeGlobal w (Refused e) = Bad e
 closeGlobal w Passed =
-    Good (record { kind = w .kind; globals = w .globals; inputs = countOf (w .globals .«n_inputs»); outputs = countOf (w .globals .«n_outputs»); seen = w .seen; ruled = w .ruled })
+    Good (record { kind = w .kind; globals = w .globals; inputs = w .globals .«n_inputs»; outputs = w .globals .«n_outputs»; seen = w .seen; ruled = w .ruled })
 
 -- where an output ends
 unfoldable pub closeOutput : Walk → Walk

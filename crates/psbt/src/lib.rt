@@ -12,7 +12,7 @@ ghost use Rattle.format.specs.Parse.{out, parsed};
 ghost use Rattle.format.specs.Told.{toldWith, toldParsed, toldParse};
 ghost use Rattle.psbt.specs.Leans.{mapsRead};
 ghost use Rattle.psbt.specs.Steps.{Places, InLimit, stepAt};
-ghost use Rattle.psbt.specs.Walks.{noted, notedCount, notedThere, noteGlobal, noteOutput, note, globalsRule, allThere, versionRule, psbtFrom, flags, seenRule, closeGlobal, closeOutput, close, finish, finishBy, anInput, anOutput, start, afterBy, after, there, countThere, countOf, atFirst};
+ghost use Rattle.psbt.specs.Walks.{noted, notedCount, notedThere, noteGlobal, noteOutput, note, globalsRule, allThere, versionRule, psbtFrom, flags, seenRule, closeGlobal, closeOutput, close, finish, finishBy, anInput, anOutput, start, afterBy, after, there, atFirst};
 use entries::has_map_room;
 use entries::has_pair_room;
 use entries::write_map;
@@ -45,20 +45,17 @@ use parsed_map::next_item;
 use wire::u32_from_le_bytes;
 use wire::u64_from_compact_size;
 
-// A count that may be absent.
-pub enum Count {
-    Absent,
-    Present(u64),
-}
-
-// What is known of the global map: its fields without key data.
+// What is known of the global map: its fields without key data. An absent count is 0 and has its flag unset; the flags
+// stand behind the wider fields.
 pub struct Globals {
     pub tx_version: Maybe,
     pub fallback_locktime: Maybe,
-    pub n_inputs: Count,
-    pub n_outputs: Count,
+    pub n_inputs: u64,
+    pub n_outputs: u64,
     pub tx_modifiable: Maybe,
     pub psbt_version: Maybe,
+    pub has_inputs: bool,
+    pub has_outputs: bool,
 }
 
 // Which of script 04, code 09 and label 0a the output that is read has.
@@ -68,15 +65,16 @@ pub struct Seen {
     pub label: bool,
 }
 
-// What is carried along a file: the kind of the map that is read, the global fields, how many inputs and outputs
-// are still to come, what the output that is read has, and what the rules say of the outputs so far.
+// What is carried along a file: the global fields, how many inputs and outputs are still to come, what the output that
+// is read has, what the rules say of the outputs so far, and the kind of the map that is read (last, where it leaves
+// no gap before the wider fields: copying one costs time at each pair).
 pub struct Walk {
-    pub kind: u8,
     pub globals: Globals,
     pub inputs: u64,
     pub outputs: u64,
     pub seen: Seen,
     pub ruled: Ruled,
+    pub kind: u8,
 }
 
 // What is carried on where a map ended, or the refusal.
@@ -125,11 +123,11 @@ fn noted(key_type: u8, key: &[u8], value: &[u8], old: Maybe) -> Maybe
 }
 
 // A count field after a pair.
-fn noted_count(key_type: u8, key: &[u8], value: &[u8], old: Count) -> Count
+fn noted_count(key_type: u8, key: &[u8], value: &[u8], old: u64) -> u64
     ensures { λ r. ⌜ r ≡ notedCount «key_type» (now (key .entry)) (now (value .entry)) old ⌝ }
 {
     if is_bare(key, key_type) {
-        Count::Present(size_value(u64_from_compact_size(value)))
+        size_value(u64_from_compact_size(value))
     } else {
         old
     }
@@ -150,10 +148,8 @@ fn note_global(g: Globals, key: &[u8], value: &[u8]) -> Globals
     let tx_version = noted(PSBT_GLOBAL_TX_VERSION, key, value, old);
     let old = g.fallback_locktime;
     let fallback_locktime = noted(PSBT_GLOBAL_FALLBACK_LOCKTIME, key, value, old);
-    let old = g.n_inputs;
-    let n_inputs = noted_count(PSBT_GLOBAL_INPUT_COUNT, key, value, old);
-    let old = g.n_outputs;
-    let n_outputs = noted_count(PSBT_GLOBAL_OUTPUT_COUNT, key, value, old);
+    let n_inputs = noted_count(PSBT_GLOBAL_INPUT_COUNT, key, value, g.n_inputs);
+    let n_outputs = noted_count(PSBT_GLOBAL_OUTPUT_COUNT, key, value, g.n_outputs);
     let old = g.tx_modifiable;
     let tx_modifiable = noted(PSBT_GLOBAL_TX_MODIFIABLE, key, value, old);
     let old = g.psbt_version;
@@ -165,6 +161,8 @@ fn note_global(g: Globals, key: &[u8], value: &[u8]) -> Globals
         n_outputs,
         tx_modifiable,
         psbt_version,
+        has_inputs: noted_there(PSBT_GLOBAL_INPUT_COUNT, key, g.has_inputs),
+        has_outputs: noted_there(PSBT_GLOBAL_OUTPUT_COUNT, key, g.has_outputs),
     }
 }
 
@@ -221,30 +219,12 @@ fn is_there(m: Maybe) -> bool
     }
 }
 
-fn is_counted(c: Count) -> bool
-    ensures { λ r. ⌜ r ≡ countThere c ⌝ }
-{
-    match c {
-        Count::Absent => false,
-        Count::Present(n) => true,
-    }
-}
-
 fn or_zero(m: Maybe) -> u32
     ensures { λ r. ⌜ r ≡ orZero m ⌝ }
 {
     match m {
         Maybe::Absent => 0,
         Maybe::Present(n) => n,
-    }
-}
-
-fn count_of(c: Count) -> u64
-    ensures { λ r. ⌜ r ≡ countOf c ⌝ }
-{
-    match c {
-        Count::Absent => 0,
-        Count::Present(n) => n,
     }
 }
 
@@ -259,11 +239,9 @@ fn has_counts(g: Globals) -> bool
     ensures { λ r. ⌜ r ≡ allThere g ⌝ }
 {
     let tx_version = g.tx_version;
-    let n_inputs = g.n_inputs;
-    let n_outputs = g.n_outputs;
     let psbt_version = g.psbt_version;
-    let last = both(is_counted(n_outputs), is_there(psbt_version));
-    let more = both(is_counted(n_inputs), last);
+    let last = both(g.has_outputs, is_there(psbt_version));
+    let more = both(g.has_inputs, last);
     both(is_there(tx_version), more)
 }
 
@@ -307,10 +285,8 @@ fn psbt_of(g: Globals) -> Psbt
     let tx_version = g.tx_version;
     let fallback_locktime = g.fallback_locktime;
     let tx_modifiable = g.tx_modifiable;
-    let n_inputs = g.n_inputs;
-    let n_outputs = g.n_outputs;
-    let inputs = count_of(n_inputs);
-    let outputs = count_of(n_outputs);
+    let inputs = g.n_inputs;
+    let outputs = g.n_outputs;
     Psbt {
         tx_version: signed(or_zero(tx_version)),
         fallback_locktime,
@@ -365,15 +341,13 @@ fn close_global(w: Walk) -> Closed
     let globals = w.globals;
     let seen = w.seen;
     let ruled = w.ruled;
-    let n_inputs = globals.n_inputs;
-    let n_outputs = globals.n_outputs;
     match check_globals(globals) {
         Ruled::Refused(e) => Closed::Bad(e),
         Ruled::Passed => Closed::Good(Walk {
             kind: w.kind,
             globals,
-            inputs: count_of(n_inputs),
-            outputs: count_of(n_outputs),
+            inputs: globals.n_inputs,
+            outputs: globals.n_outputs,
             seen,
             ruled,
         }),
@@ -516,10 +490,12 @@ fn first_map() -> Walk
         globals: Globals {
             tx_version: Maybe::Absent,
             fallback_locktime: Maybe::Absent,
-            n_inputs: Count::Absent,
-            n_outputs: Count::Absent,
+            n_inputs: 0,
+            n_outputs: 0,
             tx_modifiable: Maybe::Absent,
             psbt_version: Maybe::Absent,
+            has_inputs: false,
+            has_outputs: false,
         },
         inputs: 0,
         outputs: 0,

@@ -4,7 +4,7 @@ use mathlib.Core.List.{List, [], _∷_}
 use mathlib.Core.Bool.{Bool, true, false}
 use Prim.Native.Nat.{ℕ, suc, _-_, _≤_, _<_, min}
 use native.Mathlib.Omega.{arith}
-use borrow.Author.Tests.{lt-ltb, eq-eqb, ne-eqb, le-leb, lt-leb, leb-true, leb-false}
+use borrow.Author.Tests.{lt-ltb, le-ltb, eq-eqb, ne-eqb, le-leb, lt-leb, leb-true, leb-false}
 use lib.Dec.{leb, leb·suc-suc}
 use lib.ListN.{length, take, drop, getD, length-take, length-drop}
 use lib.Seq.{take-all, take-take}
@@ -13,8 +13,7 @@ use Rattle.format.specs.declared.PsbtError.{PsbtError}
 use Rattle.format.specs.declared.PsbtError.the-variants.{UnexpectedEof, InvalidCompactSize}
 use Rattle.format.specs.declared.Size.{Size}
 use Rattle.format.specs.declared.Size.the-variants.{Bad, Read}
-use Rattle.wire.specs.Leads.{lead, spelled}
-use Rattle.wire.proofs.Bytes.{Bytes8}
+use Rattle.wire.specs.Leads.{lead, spelled, Long}
 
 -- a part to the end, as the rule for `&s[a..]` has it
 pub part-rest : (a : ℕ) (s : List ℕ) → take (length s - a) (drop a s) ≡ drop a s
@@ -26,33 +25,38 @@ size-none [] h = refl
 size-none (b ∷ s) h = absurd (omega arith)
 
 -- the first byte and the rest, as the code has them
-size-cons : (s : List ℕ) → (length s ≡ 0 → ⊥) → size s ≡ sizeBy (getD s 0 0) (take (length s - 1) (drop 1 s))
+size-cons : (s : List ℕ) → 0 < length s → size s ≡ sizeBy (getD s 0 0) (take (length s - 1) (drop 1 s))
 unfolding size
-size-cons [] h = absurd (h refl)
+size-cons [] h = absurd (omega arith)
 size-cons (b ∷ s) h = ap (sizeBy b) (sym (part-rest 1 (b ∷ s)))
+
+pub size-one : (s : List ℕ) → (length s ≡ 0 → ⊥) → getD s 0 0 < 0xfd → Read (getD s 0 0) 1 ≡ size s
+unfolding sizeBy
+size-one s some h = sym (size-cons s (omega arith) ∙ rw (lt-ltb (getD s 0 0) 0xfd h))
+
+pub is-long : (s : List ℕ) → (length s ≡ 0 → ⊥) → 0xfd ≤ getD s 0 0 → Long s
+is-long s some h = record { some = omega arith; above = h }
+
+pub ruleset sizes = (size-none, size-one, is-long)
 
 -- w bytes behind the first are w + 1 bytes in all
 long-spelled : (n w v : ℕ) (r : List ℕ) → n ≡ suc (length r) → v ≡ lead w r → spelled n (suc w) v ≡ long w r
 unfolding spelled long lead
 long-spelled n w v r h e = rw (h, e, leb·suc-suc w (length r))
 
-module _ (s : List ℕ) (some : length s ≡ 0 → ⊥) where
+module _ (s : List ℕ) (is : Long s) where
   abbrev b : ℕ
   b = getD s 0 0
 
   abbrev r : List ℕ
   r = take (length s - 1) (drop 1 s)
 
-  pub size-one : (b ≡ 0xfd → ⊥) → (b ≡ 0xfe → ⊥) → (b ≡ 0xff → ⊥) → Bytes8 s → Read b 1 ≡ size s
-  unfolding sizeBy
-  size-one x y z k = let f = k 0 in let h : b < 0xfd = omega arith in sym (size-cons s some ∙ rw (lt-ltb b 0xfd h))
-
   rest-length : length s ≡ suc (length r)
-  rest-length = rw (part-rest 1 s, length-drop) (omega arith)
+  rest-length = rw (part-rest 1 s, length-drop) (omega (arith, is .some))
 
   module _ (o : Size) (v : ℕ) where
     size-long : (w : ℕ) → sizeBy b r ≡ long w r → v ≡ lead w r → o ≡ spelled (length s) (suc w) v → o ≡ size s
-    size-long w h e f = f ∙ long-spelled (length s) w v r rest-length e ∙ sym (size-cons s some ∙ h)
+    size-long w h e f = f ∙ long-spelled (length s) w v r rest-length e ∙ sym (size-cons s (is .some) ∙ h)
 
     pub size-fd : b ≡ 0xfd → v ≡ lead 2 r → o ≡ spelled (length s) 3 v → o ≡ size s
     unfolding sizeBy
@@ -62,11 +66,11 @@ module _ (s : List ℕ) (some : length s ≡ 0 → ⊥) where
     unfolding sizeBy
     size-fe h e f = size-long 4 (rw h) e f
 
-    pub size-ff : b ≡ 0xff → v ≡ lead 8 r → o ≡ spelled (length s) 9 v → o ≡ size s
+    pub size-ff : (b ≡ 0xfd → ⊥) → (b ≡ 0xfe → ⊥) → v ≡ lead 8 r → o ≡ spelled (length s) 9 v → o ≡ size s
     unfolding sizeBy
-    size-ff h e f = size-long 8 (rw h) e f
+    size-ff x y e f = size-long 8 (rw (le-ltb b 0xfd (is .above), ne-eqb b 0xfd x, ne-eqb b 0xfe y)) e f
 
-pub ruleset sizes = (size-none, size-one, size-fd, size-fe, size-ff)
+pub ruleset longs = (size-fd, size-fe, size-ff)
 
 -- a count, by what was read of it
 module _ (n : ℕ) (s : List ℕ) (o : Size) (is : o ≡ size s) where

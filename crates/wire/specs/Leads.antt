@@ -1,7 +1,7 @@
 -- The number at the front of some bytes.
-use Prim.Native.Nat.{ℕ}
+use Prim.Native.Nat.{ℕ, _<_, _≤_}
 use mathlib.Core.List.{List}
-use lib.ListN.{take}
+use lib.ListN.{length, take, getD}
 use lib.Dec.{leb}
 use Rattle.format.specs.Tests.{pick}
 use Rattle.format.specs.Numbers.{le}
@@ -16,3 +16,8 @@ lead w s = le (take w s)
 -- a number v that u of n bytes spell
 unfoldable pub spelled : ℕ → ℕ → ℕ → Size
 spelled n u v = pick (leb u n) (Read v u) (Bad UnexpectedEof)
+
+-- bytes that begin with a compact size of more than one byte
+pub record Long (s : List ℕ) : Type 0 where
+  pub some : 0 < length s
+  pub above : 0xfd ≤ getD s 0 0

@@ -6,7 +6,7 @@ ghost use Prim.Native.Nat.{_≤_};
 ghost use lib.ListN.{length};
 ghost use Rattle.format.specs.Numbers.{le};
 ghost use Rattle.format.specs.Compact.{size, count, countBy};
-ghost use Rattle.wire.specs.Leads.{lead, spelled};
+ghost use Rattle.wire.specs.Leads.{lead, spelled, Long};
 ghost use Rattle.wire.specs.Cursors.{cursor, remaining, takeAt, sizeAt, prefixedAt};
 
 fn wide(x: u8) -> u64
@@ -68,25 +68,38 @@ fn spelled(len: usize, used: usize, value: u64) -> Size
     }
 }
 
-// A compact size at the front of some bytes: one byte up to fc, or 2, 4 or 8 bytes after fd, fe or ff.
-pub fn read_size(s: &[u8]) -> Size
+// A compact size of more than one byte: 2, 4 or 8 bytes after fd, fe or ff.
+fn read_long(s: &[u8]) -> Size
+    requires { ⌜ Long (now s) ⌝ }
     ensures { λ r. ⌜ r ≡ size (now (s .entry)) ⌝ }
 {
     let len = s.len();
-    if len == 0 {
-        return Size::Bad(PsbtError::UnexpectedEof);
-    }
     let rest = &s[1..];
     let b = s[0];
-    match b {
-        0x00..=0xfc => Size::Read {
+    if b == 0xfd {
+        return spelled(len, 3, u16_from_le_bytes(rest) as u64);
+    }
+    if b == 0xfe {
+        return spelled(len, 5, u32_from_le_bytes(rest) as u64);
+    }
+    spelled(len, 9, u64_from_le_bytes(rest))
+}
+
+// A compact size at the front of some bytes: one byte up to fc, or a longer form.
+pub fn read_size(s: &[u8]) -> Size
+    ensures { λ r. ⌜ r ≡ size (now (s .entry)) ⌝ }
+{
+    if s.len() == 0 {
+        return Size::Bad(PsbtError::UnexpectedEof);
+    }
+    let b = s[0];
+    if b < 0xfd {
+        return Size::Read {
             value: b as u64,
             used: 1,
-        },
-        0xfd => spelled(len, 3, u16_from_le_bytes(rest) as u64),
-        0xfe => spelled(len, 5, u32_from_le_bytes(rest) as u64),
-        0xff => spelled(len, 9, u64_from_le_bytes(rest)),
+        };
     }
+    read_long(s)
 }
 
 // A place in a buffer.

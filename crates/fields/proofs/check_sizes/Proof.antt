@@ -1,14 +1,21 @@
--- `fields::check_sizes` meets its contract.
+-- `fields::check_sizes` meets its contract: a type with no row is free.
 use borrow.Author.Needs.{needs}
 use Rattle.format.specs.Rules.{sizes}
+use Rattle.fields.proofs.Types.{free-types}
 use Rattle.fields.proofs.check_sizes.Statement.{statement}
 use Rattle.fields.proofs.check_sizes.Tie as tie
+use Rattle.fields.proofs.check_sizes.Reads as reads
+use Rattle.fields.proofs.check_sizes.Lts as lts
+use Rattle.fields.proofs.has_type.Reads as has-type-reads
+use Rattle.fields.proofs.sizes_in.Reads as sizes-in-reads
 
--- needs: needs | sizes
+-- needs: needs, free-types | sizes
 pub check-sizes-spec : {M : Type 1} → statement M
 unfolding sizes
 check-sizes-spec =
     tie.close
     (tie.spec
-    (λ c κs. search (needs))
-    (λ c. search (needs)))
+    (λ c κs. search (needs, free-types))
+    (λ c κs. search (needs, free-types))
+    (λ c. search (needs, free-types))
+    (λ c. search (needs, free-types)))

@@ -1,10 +1,13 @@
--- `keys::compare` meets its contract. The loop's invariant: the order from `i` on is that of the whole. The measure is what is left of `a`.
+-- `keys::compare` meets its contract, from the place behind the equal blocks on. The loop's invariant: the order from `i` on is that of the whole. The measure is what is left of `a`.
 use Prim.Native.Nat.{_-_}
 use borrow.Author.Needs.{needs}
 use lib.ListN.{length}
 use Rattle.keys.proofs.Orders.{On, orders}
 use Rattle.keys.proofs.compare.Statement.{statement}
 use Rattle.keys.proofs.compare.Tie as tie
+use Rattle.keys.proofs.compare.Reads as reads
+use Rattle.keys.proofs.compare.Lts as lts
+use Rattle.keys.proofs.same_front.Reads as same-front-reads
 
 abbrev Inv-loop : tie.InvT-loop
 Inv-loop a b i₀ i = On a b i
@@ -19,6 +22,7 @@ compare-spec =
     (tie.spec
     Inv-loop
     μ-loop
+    (λ c κs. search (needs, orders))
     (λ c. search (needs, orders))
     (λ c. search (needs, orders))
     (λ c. search (needs, orders))

@@ -6,7 +6,6 @@ use Rattle.psbt.proofs.has_counts.Tie as tie
 use Rattle.psbt.proofs.has_counts.Reads as reads
 use Rattle.psbt.proofs.has_counts.Lts as lts
 use Rattle.psbt.proofs.both.Reads as both-reads
-use Rattle.psbt.proofs.is_counted.Reads as is-counted-reads
 use Rattle.psbt.proofs.is_there.Reads as is-there-reads
 
 -- needs: needs, all-there
@@ -14,8 +13,6 @@ pub has-counts-spec : {M : Type 1} → statement M
 has-counts-spec =
     tie.close
     (tie.spec
-    (λ c κs. search (needs, all-there))
-    (λ c κs. search (needs, all-there))
     (λ c κs. search (needs, all-there))
     (λ c κs. search (needs, all-there))
     (λ c κs. search (needs, all-there))

@@ -7,12 +7,15 @@ use Rattle.psbt.proofs.note_global.Reads as reads
 use Rattle.psbt.proofs.note_global.Lts as lts
 use Rattle.psbt.proofs.noted.Reads as noted-reads
 use Rattle.psbt.proofs.noted_count.Reads as noted-count-reads
+use Rattle.psbt.proofs.noted_there.Reads as noted-there-reads
 
 -- needs: needs, note-fields
 pub note-global-spec : {M : Type 1} → statement M
 note-global-spec =
     tie.close
     (tie.spec
+    (λ c κs. search (needs, note-fields))
+    (λ c κs. search (needs, note-fields))
     (λ c κs. search (needs, note-fields))
     (λ c κs. search (needs, note-fields))
     (λ c κs. search (needs, note-fields))

@@ -5,7 +5,6 @@ use Rattle.psbt.proofs.psbt_of.Statement.{statement}
 use Rattle.psbt.proofs.psbt_of.Tie as tie
 use Rattle.psbt.proofs.psbt_of.Reads as reads
 use Rattle.psbt.proofs.psbt_of.Lts as lts
-use Rattle.psbt.proofs.count_of.Reads as count-of-reads
 use Rattle.psbt.proofs.or_zero.Reads as or-zero-reads
 use Rattle.psbt.proofs.signed.Reads as signed-reads
 
@@ -14,8 +13,6 @@ pub psbt-of-spec : {M : Type 1} → statement M
 psbt-of-spec =
     tie.close
     (tie.spec
-    (λ c κs. search (needs, report))
-    (λ c κs. search (needs, report))
     (λ c κs. search (needs, report))
     (λ c κs. search (needs, report))
     (λ c. search (needs, report)))

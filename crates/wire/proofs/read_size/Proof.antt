@@ -1,4 +1,4 @@
--- `wire::read_size` meets its contract: each first byte leads to its case of the definition.
+-- `wire::read_size` meets its contract: a first byte up to fc is the size, any other begins a longer form.
 use borrow.Author.Needs.{needs}
 use Rattle.wire.proofs.Bytes.{bytes}
 use Rattle.wire.proofs.Sizes.{sizes}
@@ -6,10 +6,7 @@ use Rattle.wire.proofs.read_size.Statement.{statement}
 use Rattle.wire.proofs.read_size.Tie as tie
 use Rattle.wire.proofs.read_size.Reads as reads
 use Rattle.wire.proofs.read_size.Lts as lts
-use Rattle.wire.proofs.spelled.Reads as spelled-reads
-use Rattle.wire.proofs.u16_from_le_bytes.Reads as u16-from-le-bytes-reads
-use Rattle.wire.proofs.u32_from_le_bytes.Reads as u32-from-le-bytes-reads
-use Rattle.wire.proofs.u64_from_le_bytes.Reads as u64-from-le-bytes-reads
+use Rattle.wire.proofs.read_long.Reads as read-long-reads
 
 -- needs: needs, bytes, sizes
 pub read-size-spec : {M : Type 1} → statement M
@@ -20,17 +17,5 @@ read-size-spec =
     (λ c. search (needs, bytes, sizes))
     (λ c. search (needs, bytes, sizes))
     (λ c. search (needs, bytes, sizes))
-    (λ c. search (needs, bytes, sizes))
     (λ c κs. search (needs, bytes, sizes))
-    (λ c. search (needs, bytes, sizes))
-    (λ c κs. search (needs, bytes, sizes))
-    (λ c κs. search (needs, bytes, sizes))
-    (λ c. search (needs, bytes, sizes))
-    (λ c κs. search (needs, bytes, sizes))
-    (λ c κs. search (needs, bytes, sizes))
-    (λ c κs. search (needs, bytes, sizes))
-    (λ c. search (needs, bytes, sizes))
-    (λ c. search (needs, bytes, sizes))
-    (λ c. search (needs, bytes, sizes))
-    (λ c. search (needs, bytes, sizes))
     (λ c. search (needs, bytes, sizes)))
