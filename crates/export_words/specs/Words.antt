@@ -65,6 +65,10 @@ stateOf set written = record { set = not (eqb set 0); written = not (eqb written
 unfoldable pub asked : List ℕ → List ℕ → (Psbt → Told) → Export
 asked R A k = answered A (k (psbtIn R))
 
+-- the same of a call that takes the state too, by two numbers
+unfoldable pub askedIn : ℕ → ℕ → List ℕ → List ℕ → (State → Psbt → Told) → Export
+askedIn set written R A k = answered A (k (stateOf set written) (psbtIn R))
+
 -- the slice, and lent memory: two tables; one buffer
 pub data ExportWith : Type 0 where
   leaves : Export → List ℕ → ExportWith
@@ -83,5 +87,5 @@ parseExport A P M t = pick (leb answerWords (length A)) (parseLeft A t) (leavesB
 unfoldable pub outLeft : List ℕ → ToldOut → ExportWith
 outLeft A (toldLeft t B) = leaves (answered A t) B
 
-unfoldable pub outExport : List ℕ → List ℕ → List ℕ → (Psbt → ToldOut) → ExportWith
-outExport R A B k = pick (leb answerWords (length A)) (outLeft A (k (psbtIn R))) (leaves (exported 25 A) B)
+unfoldable pub outExport : ℕ → ℕ → List ℕ → List ℕ → List ℕ → (State → Psbt → ToldOut) → ExportWith
+outExport set written R A B k = pick (leb answerWords (length A)) (outLeft A (k (stateOf set written) (psbtIn R))) (leaves (exported 25 A) B)
