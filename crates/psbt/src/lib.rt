@@ -268,7 +268,7 @@ fn check_globals(g: Globals) -> Ruled
 }
 
 // 32 bits read as a signed number.
-fn signed(x: u32) -> i32
+pub fn signed(x: u32) -> i32
     ensures { λ r. ⌜ r ≡ signed x ⌝ }
 {
     if x < 0x8000_0000 {

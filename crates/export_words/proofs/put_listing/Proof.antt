@@ -1,0 +1,25 @@
+-- `export_words::put_listing` meets its contract: each case has its law.
+use borrow.Author.Needs.{needs}
+use Rattle.export_words.proofs.Answers.{listings}
+use Rattle.export_words.proofs.put_listing.Statement.{statement}
+use Rattle.export_words.proofs.put_listing.Tie as tie
+use Rattle.export_words.proofs.put_listing.Reads as reads
+use Rattle.export_words.proofs.put_listing.Lts as lts
+use Rattle.export_words.proofs.put.Reads as put-reads
+use Rattle.format.proofs.PsbtError.number.Reads as number-reads
+
+-- needs: needs, listings
+pub put-listing-spec : {M : Type 1} → statement M
+put-listing-spec =
+    tie.close
+    (tie.spec
+    (λ c. search (needs, listings))
+    (λ c κs. search (needs, listings))
+    (λ c. search (needs, listings))
+    (λ c κs. search (needs, listings))
+    (λ c. search (needs, listings))
+    (λ c κs. search (needs, listings))
+    (λ c. search (needs, listings))
+    (λ c. search (needs, listings))
+    (λ c. search (needs, listings))
+    (λ c. search (needs, listings)))

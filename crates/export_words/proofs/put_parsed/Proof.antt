@@ -1,0 +1,26 @@
+-- `export_words::put_parsed` meets its contract: each case has its law.
+use borrow.Author.Needs.{needs}
+use Rattle.export_words.proofs.Answers.{parseds}
+use Rattle.export_words.proofs.put_parsed.Statement.{statement}
+use Rattle.export_words.proofs.put_parsed.Tie as tie
+use Rattle.export_words.proofs.put_parsed.Reads as reads
+use Rattle.export_words.proofs.put_parsed.Lts as lts
+use Rattle.export_words.proofs.put.Reads as put-reads
+use Rattle.export_words.proofs.put_accepted.Reads as put-accepted-reads
+use Rattle.format.proofs.PsbtError.number.Reads as number-reads
+
+-- needs: needs, parseds
+pub put-parsed-spec : {M : Type 1} → statement M
+put-parsed-spec =
+    tie.close
+    (tie.spec
+    (λ c. search (needs, parseds))
+    (λ c κs. search (needs, parseds))
+    (λ c. search (needs, parseds))
+    (λ c κs. search (needs, parseds))
+    (λ c. search (needs, parseds))
+    (λ c κs. search (needs, parseds))
+    (λ c. search (needs, parseds))
+    (λ c. search (needs, parseds))
+    (λ c. search (needs, parseds))
+    (λ c. search (needs, parseds)))

@@ -1,0 +1,28 @@
+-- `export_words::put_set` meets its contract: each case has its law.
+use borrow.Author.Needs.{needs}
+use Rattle.export_words.proofs.Answers.{sets}
+use Rattle.export_words.proofs.put_set.Statement.{statement}
+use Rattle.export_words.proofs.put_set.Tie as tie
+use Rattle.export_words.proofs.put_set.Reads as reads
+use Rattle.export_words.proofs.put_set.Lts as lts
+use Rattle.export_words.proofs.bit.Reads as bit-reads
+use Rattle.export_words.proofs.put.Reads as put-reads
+use Rattle.format.proofs.PsbtError.number.Reads as number-reads
+
+-- needs: needs, sets
+pub put-set-spec : {M : Type 1} → statement M
+put-set-spec =
+    tie.close
+    (tie.spec
+    (λ c. search (needs, sets))
+    (λ c κs. search (needs, sets))
+    (λ c. search (needs, sets))
+    (λ c κs. search (needs, sets))
+    (λ c. search (needs, sets))
+    (λ c κs. search (needs, sets))
+    (λ c κs. search (needs, sets))
+    (λ c κs. search (needs, sets))
+    (λ c. search (needs, sets))
+    (λ c. search (needs, sets))
+    (λ c. search (needs, sets))
+    (λ c. search (needs, sets)))

@@ -1,0 +1,295 @@
+// Answers as words in a lent slice, and what a parse reported from its words, for callers from other languages.
+use format::Listing;
+use format::Lock;
+use format::Looked;
+use format::Maybe;
+use format::Nth;
+use format::Numbered;
+use format::OutputScript;
+use format::Parsed;
+use format::Psbt;
+use format::ScriptsSet;
+use format::State;
+use format::UnsignedTx;
+use format::Utxo;
+use writer::bits_of;
+ghost use Rattle.format.specs.Told.{flag, maybeValue, toldLooked, toldNumbered, toldListing, toldNth, toldUtxo, toldLock, toldScript, toldSet, toldTx, toldParsed};
+ghost use mathlib.Core.Path.{_≡_};
+ghost use Prim.Native.Nat.{_+_, _≤_};
+ghost use lib.ListN.{length, getD};
+ghost use Rattle.format.specs.declared.Parsed.the-variants.{Accepted};
+ghost use Rattle.export_words.specs.Words.{word as Words·word, answeredWith, exported, answered, maybeOf, psbtIn, stateOf};
+ghost use Rattle.writer.specs.Writes.{wrote};
+
+// How many words an answer takes.
+const ANSWER: usize = 8;
+
+// The number of a slice that is too short for an answer.
+const NO_ROOM: u64 = 25;
+
+// The word of a value that is absent.
+const NO_VALUE: u64 = 18446744073709551615;
+
+// Copies words into a slice.
+fn put_words(buf: &mut [u64], at: usize, src: &[u64])
+    requires { ⌜ at + length (now src) ≤ length (now buf) ⌝ }
+    ensures { λ _. ⌜ now (buf .exit) ≡ wrote (now (buf .entry)) at (now (src .entry)) ⌝ }
+{
+    let mut j: usize = 0;
+    while j < src.len() {
+        buf[at + j] = src[j];
+        j = j + 1;
+    }
+}
+
+// An answer's number and its words.
+fn put(answer: &mut [u64], number: u64, words: [u64; 8]) -> u64
+    ensures { λ r. ⌜ exported r (now (answer .exit)) ≡ answeredWith (now (answer .entry)) number words ⌝ }
+{
+    if answer.len() < ANSWER {
+        return NO_ROOM;
+    }
+    put_words(answer, 0, &words);
+    number
+}
+
+// Word number `k`, or 0.
+fn word(report: &[u64], k: usize) -> u64
+    ensures { λ r. ⌜ r ≡ getD (now (report .entry)) k 0 ⌝ }
+{
+    if k < report.len() { report[k] } else { 0 }
+}
+
+fn maybe_of(w: u64) -> Maybe
+    ensures { λ r. ⌜ r ≡ maybeOf w ⌝ }
+{
+    if w == NO_VALUE {
+        Maybe::Absent
+    } else {
+        Maybe::Present((w % 4294967296) as u32)
+    }
+}
+
+// What a parse reported, from its words.
+pub fn psbt_of(report: &[u64]) -> Psbt
+    ensures { λ r. ⌜ r ≡ psbtIn (now (report .entry)) ⌝ }
+{
+    Psbt {
+        tx_version: psbt::signed((word(report, 1) % 4294967296) as u32),
+        fallback_locktime: maybe_of(word(report, 2)),
+        tx_modifiable: maybe_of(word(report, 3)),
+        inputs: word(report, 4),
+        outputs: word(report, 5),
+    }
+}
+
+pub fn state_of(set: u64, written: u64) -> State
+    ensures { λ r. ⌜ r ≡ stateOf set written ⌝ }
+{
+    State {
+        set: set != 0,
+        written: written != 0,
+    }
+}
+
+// A yes or no as a word.
+fn bit(b: bool) -> u64
+    ensures { λ r. ⌜ r ≡ Words·word (flag b) ⌝ }
+{
+    if b { 1 } else { 0 }
+}
+
+// A number that may be absent, as a word.
+fn word_of(m: Maybe) -> u64
+    ensures { λ r. ⌜ r ≡ Words·word (maybeValue m) ⌝ }
+{
+    match m {
+        Maybe::Absent => NO_VALUE,
+        Maybe::Present(n) => n as u64,
+    }
+}
+
+// Each kind of answer: its number, and its values as words.
+pub fn put_looked(answer: &mut [u64], o: Looked) -> u64
+    ensures { λ r. ⌜ exported r (now (answer .exit)) ≡ answered (now (answer .entry)) (toldLooked o) ⌝ }
+{
+    match o {
+        Looked::Refused(e) => { put(answer, e.number() as u64, [0, 0, 0, 0, 0, 0, 0, 0]) }
+        Looked::Absent => { put(answer, 0, [0, 0, 0, 0, 0, 0, 0, 0]) }
+        Looked::At { start, len } => {
+            put(answer, 0, [2, start as u64, len as u64, 0, 0, 0, 0, 0])
+        }
+    }
+}
+
+pub fn put_numbered(answer: &mut [u64], o: Numbered) -> u64
+    ensures { λ r. ⌜ exported r (now (answer .exit)) ≡ answered (now (answer .entry)) (toldNumbered o) ⌝ }
+{
+    match o {
+        Numbered::Refused(e) => { put(answer, e.number() as u64, [0, 0, 0, 0, 0, 0, 0, 0]) }
+        Numbered::Absent => { put(answer, 0, [0, 0, 0, 0, 0, 0, 0, 0]) }
+        Numbered::Is(n) => { put(answer, 0, [1, n, 0, 0, 0, 0, 0, 0]) }
+    }
+}
+
+pub fn put_listing(answer: &mut [u64], o: Listing) -> u64
+    ensures { λ r. ⌜ exported r (now (answer .exit)) ≡ answered (now (answer .entry)) (toldListing o) ⌝ }
+{
+    match o {
+        Listing::Refused(e) => { put(answer, e.number() as u64, [0, 0, 0, 0, 0, 0, 0, 0]) }
+        Listing::Pairs { first, count } => {
+            put(answer, 0, [2, first as u64, count as u64, 0, 0, 0, 0, 0])
+        }
+    }
+}
+
+pub fn put_nth(answer: &mut [u64], o: Nth) -> u64
+    ensures { λ r. ⌜ exported r (now (answer .exit)) ≡ answered (now (answer .entry)) (toldNth o) ⌝ }
+{
+    match o {
+        Nth::Refused(e) => { put(answer, e.number() as u64, [0, 0, 0, 0, 0, 0, 0, 0]) }
+        Nth::Is(e) => {
+            put(
+                answer,
+                0,
+                [
+                    4,
+                    e.key as u64,
+                    e.klen as u64,
+                    e.value as u64,
+                    e.vlen as u64,
+                    0,
+                    0,
+                    0,
+                ],
+            )
+        }
+    }
+}
+
+pub fn put_utxo(answer: &mut [u64], o: Utxo) -> u64
+    ensures { λ r. ⌜ exported r (now (answer .exit)) ≡ answered (now (answer .entry)) (toldUtxo o) ⌝ }
+{
+    match o {
+        Utxo::Refused(e) => { put(answer, e.number() as u64, [0, 0, 0, 0, 0, 0, 0, 0]) }
+        Utxo::Absent => { put(answer, 0, [0, 0, 0, 0, 0, 0, 0, 0]) }
+        Utxo::Is { amount, start, len } => {
+            put(answer, 0, [3, amount, start as u64, len as u64, 0, 0, 0, 0])
+        }
+    }
+}
+
+pub fn put_lock(answer: &mut [u64], o: Lock) -> u64
+    ensures { λ r. ⌜ exported r (now (answer .exit)) ≡ answered (now (answer .entry)) (toldLock o) ⌝ }
+{
+    match o {
+        Lock::Refused(e) => { put(answer, e.number() as u64, [0, 0, 0, 0, 0, 0, 0, 0]) }
+        Lock::Height { number, input } => {
+            put(answer, 0, [3, 1, number as u64, input, 0, 0, 0, 0])
+        }
+        Lock::Time { number, input } => { put(answer, 0, [3, 2, number as u64, input, 0, 0, 0, 0]) }
+        Lock::Fallback { number } => { put(answer, 0, [2, 0, number as u64, 0, 0, 0, 0, 0]) }
+        Lock::BothKinds {
+            height_input,
+            time_input,
+        } => { put(answer, 7, [3, 1, height_input, time_input, 0, 0, 0, 0]) }
+        Lock::HeightTooGreat { number, input } => {
+            put(answer, 7, [3, 2, number as u64, input, 0, 0, 0, 0])
+        }
+        Lock::TimeTooSmall { number, input } => {
+            put(answer, 7, [3, 3, number as u64, input, 0, 0, 0, 0])
+        }
+        Lock::Malformed { input } => { put(answer, 7, [2, 4, input, 0, 0, 0, 0, 0]) }
+    }
+}
+
+pub fn put_script(answer: &mut [u64], o: OutputScript) -> u64
+    ensures { λ r. ⌜ exported r (now (answer .exit)) ≡ answered (now (answer .entry)) (toldScript o) ⌝ }
+{
+    match o {
+        OutputScript::Refused(e) => { put(answer, e.number() as u64, [0, 0, 0, 0, 0, 0, 0, 0]) }
+        OutputScript::Absent => { put(answer, 0, [0, 0, 0, 0, 0, 0, 0, 0]) }
+        OutputScript::InFile { start, len } => {
+            put(answer, 0, [3, 0, start as u64, len as u64, 0, 0, 0, 0])
+        }
+        OutputScript::InTable { start, len } => {
+            put(answer, 0, [3, 1, start as u64, len as u64, 0, 0, 0, 0])
+        }
+    }
+}
+
+pub fn put_set(answer: &mut [u64], o: ScriptsSet) -> u64
+    ensures { λ r. ⌜ exported r (now (answer .exit)) ≡ answered (now (answer .entry)) (toldSet o) ⌝ }
+{
+    match o {
+        ScriptsSet::Refused(e) => { put(answer, e.number() as u64, [0, 0, 0, 0, 0, 0, 0, 0]) }
+        ScriptsSet::Done(t) => { put(answer, 0, [2, bit(t.set), bit(t.written), 0, 0, 0, 0, 0]) }
+    }
+}
+
+pub fn put_tx(answer: &mut [u64], o: UnsignedTx) -> u64
+    ensures { λ r. ⌜ exported r (now (answer .exit)) ≡ answered (now (answer .entry)) (toldTx o) ⌝ }
+{
+    match o {
+        UnsignedTx::Refused(e) => { put(answer, e.number() as u64, [0, 0, 0, 0, 0, 0, 0, 0]) }
+        UnsignedTx::Written { len, state } => {
+            put(
+                answer,
+                0,
+                [
+                    3,
+                    len as u64,
+                    bit(state.set),
+                    bit(state.written),
+                    0,
+                    0,
+                    0,
+                    0,
+                ],
+            )
+        }
+    }
+}
+
+// What an accepted parse reports.
+fn put_accepted(answer: &mut [u64], psbt: Psbt, pairs: usize, maps: usize) -> u64
+    ensures { λ r. ⌜ exported r (now (answer .exit)) ≡ answered (now (answer .entry)) (toldParsed (Accepted psbt pairs maps)) ⌝ }
+{
+    let fallback = psbt.fallback_locktime;
+    let modifiable = psbt.tx_modifiable;
+    let version = bits_of(psbt.tx_version);
+    let a = word_of(fallback);
+    let b = word_of(modifiable);
+    put(
+        answer,
+        0,
+        [
+            7,
+            version,
+            a,
+            b,
+            psbt.inputs,
+            psbt.outputs,
+            pairs as u64,
+            maps as u64,
+        ],
+    )
+}
+
+pub fn put_parsed(answer: &mut [u64], o: Parsed) -> u64
+    ensures { λ r. ⌜ exported r (now (answer .exit)) ≡ answered (now (answer .entry)) (toldParsed o) ⌝ }
+{
+    match o {
+        Parsed::Accepted { psbt, pairs, maps } => {
+            let report = psbt;
+            put_accepted(answer, report, pairs, maps)
+        }
+        Parsed::Refused { error, pairs, maps } => {
+            put(
+                answer,
+                error.number() as u64,
+                [2, pairs as u64, maps as u64, 0, 0, 0, 0, 0],
+            )
+        }
+    }
+}

@@ -1,0 +1,16 @@
+-- `exports::fastpsbt_global_get_sp_dleq_proof` meets its contract.
+use borrow.Author.Needs.{needs}
+use Rattle.exports.proofs.Calls.{asks}
+use Rattle.exports.proofs.fastpsbt_global_get_sp_dleq_proof.Statement.{statement}
+use Rattle.exports.proofs.fastpsbt_global_get_sp_dleq_proof.Tie as tie
+
+-- needs: needs, asks
+pub fastpsbt-global-get-sp-dleq-proof-spec : {M : Type 1} → statement M
+fastpsbt-global-get-sp-dleq-proof-spec =
+    tie.close
+    (tie.spec
+    (λ c κs. search (needs, asks))
+    (λ c κs. search (needs, asks))
+    (λ c κs. search (needs, asks))
+    (λ c. search (needs, asks))
+    (λ c. search (needs, asks)))
