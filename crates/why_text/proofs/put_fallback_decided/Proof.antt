@@ -1,0 +1,18 @@
+-- `why_text::put_fallback_decided` meets its contract.
+use borrow.Author.Needs.{needs}
+use Rattle.text.proofs.Chains.{chain2}
+use Rattle.why_text.specs.Lines.{fallbackDecided}
+use Rattle.why_text.proofs.put_fallback_decided.Statement.{statement}
+use Rattle.why_text.proofs.put_fallback_decided.Tie as tie
+
+-- needs: needs, chain2 | fallbackDecided
+pub put-fallback-decided-spec : {M : Type 1} → statement M
+unfolding fallbackDecided
+put-fallback-decided-spec =
+    tie.close
+    (tie.spec
+    (λ c. search (needs, chain2))
+    (λ c κs. search (needs, chain2))
+    (λ c κs. search (needs, chain2))
+    (λ c. search (needs, chain2))
+    (λ c. search (needs, chain2)))
