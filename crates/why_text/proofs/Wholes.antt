@@ -22,7 +22,8 @@ use Rattle.format.proofs.Told.{numbered-one, lock-one, parse-out-one, tx-out-on
 use Rattle.text.specs.Spots.{Spot, spot, lay}
 use Rattle.text.proofs.Lays.{lay-then}
 use Rattle.dump_text.specs.Dump.{zeros, fresh}
-use Rattle.why_text.specs.Lines.{refusedLine, headLine, inputLine, verdict}
+use Rattle.reasons.specs.Reasons.{refusedLine}
+use Rattle.lock_lines.specs.Lines.{headLine, inputLine, verdict}
 use Rattle.why_text.specs.Why.{heightAsked, timeAsked, inputsText, answered, acceptedText, parsedText, whyIn, why}
 
 -- the lines of the n inputs from number i on

@@ -14,7 +14,8 @@ use Rattle.format.specs.declared.Numbered.{Numbered}
 use Rattle.format.specs.declared.UnsignedTx.{UnsignedTx}
 use Rattle.format.specs.declared.Parsed.the-variants.{Accepted, Refused}
 use Rattle.dump_text.specs.Dump.{zeros, fresh}
-use Rattle.why_text.specs.Lines.{refusedLine, headLine, inputLine, verdict}
+use Rattle.reasons.specs.Reasons.{refusedLine}
+use Rattle.lock_lines.specs.Lines.{headLine, inputLine, verdict}
 
 -- the height that input number i asks for, as its lookup answers
 unfoldable pub heightAsked : List ℕ → List ℕ → List ℕ → Psbt → ℕ → Numbered
