@@ -1,8 +1,8 @@
 -- Laws of the lengths of years and months, and of a date's text: pieces that were put one after the other are the text.
-use mathlib.Core.Path.{_≡_, _∙_, sym, ap}
+use mathlib.Core.Path.{_≡_, sym, _∙_, ap}
+use mathlib.Core.Bool.{Bool, true, false}
 use Prim.Native.Nat.{ℕ, _<_, _≤_}
 use borrow.Author.Tests.{lt-ltb, le-ltb, eq-eqb, ne-eqb}
-use mathlib.Core.Bool.{Bool, true, false}
 use Rattle.format.proofs.Tests.{pick-yes, pick-no}
 use Rattle.text.specs.Spots.{Spot, lay}
 use Rattle.text.specs.Spelled.{decimal}

@@ -1,12 +1,10 @@
 -- Laws of the walks over years and months: the year of a day, from where the walk stands, is the year of the day it began with.
 use mathlib.Core.Path.{_≡_, refl, sym, _∙_, ap}
-use Prim.Native.Nat.{ℕ, zero, suc, _+_, _-_, _*_, _/_, _^_, _≤_, _<_}
+use Prim.Native.Nat.{ℕ, zero, suc, _+_, _-_, _*_, _/_, _≤_, _<_}
 use native.Mathlib.Omega.{arith}
 use borrow.Author.Tests.{le-leb, lt-leb}
-use lib.Dec.{leb}
 use mir.Syntax.{w64}
 use mir.Val.{Fits}
-use Rattle.format.specs.Tests.{pick}
 use Rattle.format.proofs.Tests.{pick-by}
 use Rattle.utc.specs.declared.Stand.{Stand}
 use Rattle.utc.specs.Dates.{leap, yearLength, monthLength, yearFrom, yearOf, monthFrom, monthOf}
