@@ -66,12 +66,12 @@ asked-is f P M s m key ok l (holds es) q =
     pick-ap (answerAt f) ok _ _ ∙ ap (λ (x : Answer). pick ok x (refuses BadValue)) (place-is f l key es (held-shows f P M s m es q .0))
 
 -- a number is known by the answer
-numberIn : Answer → Numbered
+unfoldable pub numberIn : Answer → Numbered
 numberIn (refuses e) = N.Refused e
 numberIn lacks = N.Absent
 numberIn (gives v) = N.Is (le v)
 
-number-in : (f : List ℕ) (y : Looked) → numberAt f y ≡ numberIn (answerAt f y)
+pub number-in : (f : List ℕ) (y : Looked) → numberAt f y ≡ numberIn (answerAt f y)
 unfolding numberAt numberIn answerAt
 number-in f (Refused e) = refl
 number-in f Absent = refl

@@ -1,5 +1,6 @@
 pub mod Strikes
 pub mod Newers
 pub mod Calls
+pub mod Asked
 pub mod Outcomes
 pub mod Meaning

@@ -1,4 +1,5 @@
 pub mod Answers
+pub mod Asked
 pub mod Newer
 pub mod Calls
 pub mod Examples

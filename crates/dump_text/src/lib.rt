@@ -230,7 +230,7 @@ fn put_parsed(
 }
 
 // Room for 1,024 pairs.
-fn pair_room() -> [u32; 4096]
+pub fn pair_room() -> [u32; 4096]
     ensures { λ r. ⌜ r ≡ zeros 4096 ⌝ }
     ensures { λ r. ⌜ 4096 ≡ length r ⌝ }
 {
@@ -238,7 +238,7 @@ fn pair_room() -> [u32; 4096]
 }
 
 // Room for 256 maps.
-fn map_room() -> [u32; 512]
+pub fn map_room() -> [u32; 512]
     ensures { λ r. ⌜ r ≡ zeros 512 ⌝ }
     ensures { λ r. ⌜ 512 ≡ length r ⌝ }
 {
@@ -246,7 +246,7 @@ fn map_room() -> [u32; 512]
 }
 
 // Room for the transaction.
-fn tx_room() -> [u8; 65536]
+pub fn tx_room() -> [u8; 65536]
     ensures { λ r. ⌜ r ≡ zeros 65536 ⌝ }
     ensures { λ r. ⌜ 65536 ≡ length r ⌝ }
 {
@@ -267,7 +267,7 @@ pub fn put_dump(out: &mut [u8], at: usize, file: &[u8]) -> usize
 }
 
 // Room for the longest file and a byte more.
-fn file_room() -> [u8; 65537]
+pub fn file_room() -> [u8; 65537]
     ensures { λ r. ⌜ 65537 ≡ length r ⌝ }
 {
     [0; 65537]
@@ -283,7 +283,7 @@ fn text_room() -> [u8; 272384]
 }
 
 // The text, in one piece.
-fn write_text(fd: i32, out: &[u8], to: usize) -> bool {
+pub fn write_text(fd: i32, out: &[u8], to: usize) -> bool {
     if out.len() < to {
         return false;
     }

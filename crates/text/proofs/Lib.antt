@@ -1,1 +1,2 @@
 pub mod Lays
+pub mod Chains

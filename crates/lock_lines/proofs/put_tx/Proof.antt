@@ -1,0 +1,32 @@
+-- `lock_lines::put_tx` meets its contract.
+use borrow.Author.Needs.{needs}
+use Rattle.lock_lines.proofs.Answers.{txs}
+use Rattle.lock_lines.proofs.put_tx.Statement.{statement}
+use Rattle.lock_lines.proofs.put_tx.Tie as tie
+
+-- needs: needs, txs
+pub put-tx-spec : {M : Type 1} → statement M
+put-tx-spec =
+    tie.close
+    (tie.spec
+    (λ c. search (needs, txs))
+    (λ c. search (needs, txs))
+    (λ c κs. search (needs, txs))
+    (λ c κs. search (needs, txs))
+    (λ c. search (needs, txs))
+    (λ c κs. search (needs, txs))
+    (λ c. search (needs, txs))
+    (λ c κs. search (needs, txs))
+    (λ c κs. search (needs, txs))
+    (λ c. search (needs, txs))
+    (λ c κs. search (needs, txs))
+    (λ c. search (needs, txs))
+    (λ c. search (needs, txs))
+    (λ c κs. search (needs, txs))
+    (λ c κs. search (needs, txs))
+    (λ c. search (needs, txs))
+    (λ c κs. search (needs, txs))
+    (λ c. search (needs, txs))
+    (λ c. search (needs, txs))
+    (λ c. search (needs, txs))
+    (λ c. search (needs, txs)))

@@ -1,0 +1,1 @@
+// The claims about the text of `why`; no code.

@@ -1,0 +1,6 @@
+// Reads a file from standard input and writes to standard output what it asks of the lock and what was decided.
+use why_text::why_input;
+
+fn main() {
+    why_input(0, 1);
+}

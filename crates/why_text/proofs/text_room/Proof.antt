@@ -1,0 +1,7 @@
+-- `why_text::text_room` meets its contract.
+use Rattle.dump_text.proofs.Wholes.{room}
+use Rattle.why_text.proofs.text_room.Statement.{statement}
+use Rattle.why_text.proofs.text_room.Tie as tie
+
+pub text-room-spec : {M : Type 1} → statement M
+text-room-spec = tie.close (tie.spec (λ c. room 20480))

@@ -1,0 +1,124 @@
+// The text that `why` prints of a file: what its inputs ask of the lock, what decided it, and whether a transaction is given.
+use dump_text::file_room;
+use dump_text::map_room;
+use dump_text::pair_room;
+use dump_text::tx_room;
+use dump_text::write_text;
+use format::Parsed;
+use format::Psbt;
+use format::PsbtError;
+use format::State;
+use lock_lines::put_head;
+use lock_lines::put_input;
+use lock_lines::put_verdict;
+use reasons::put_refused;
+use typed::input::required_height_locktime;
+use typed::input::required_time_locktime;
+ghost use mathlib.Core.Path.{_≡_};
+ghost use lib.ListN.{length};
+ghost use Rattle.text.specs.Spots.{spot, lay};
+ghost use Rattle.why_text.specs.Why.{heightAsked, timeAsked, inputsText, acceptedText, whyIn, why};
+
+// The longest file that is read, in bytes.
+const MOST: usize = 65536;
+
+// What all inputs ask for, a line each.
+fn put_inputs(
+    out: &mut [u8],
+    at: usize,
+    file: &[u8],
+    pairs: &[u32],
+    maps: &[u32],
+    psbt: Psbt,
+) -> usize
+    ensures { λ r. ⌜ spot r (now (out .exit)) ≡ lay (spot at (now (out .entry))) (inputsText (heightAsked (now (file .entry)) (now (pairs .entry)) (now (maps .entry)) psbt) (timeAsked (now (file .entry)) (now (pairs .entry)) (now (maps .entry)) psbt) 0 (psbt .inputs)) ⌝ }
+{
+    let mut to = at;
+    let mut i: u64 = 0;
+    while i < psbt.inputs {
+        let h = required_height_locktime(file, pairs, maps, psbt, i);
+        let t = required_time_locktime(file, pairs, maps, psbt, i);
+        to = put_input(out, to, i, h, t);
+        i = i + 1;
+    }
+    to
+}
+
+// The text of an accepted file, by the tables that its parse left.
+fn put_accepted(
+    out: &mut [u8],
+    at: usize,
+    file: &[u8],
+    pairs: &[u32],
+    maps: &[u32],
+    psbt: Psbt,
+    tx: &mut [u8],
+) -> usize
+    ensures { λ r. ⌜ spot r (now (out .exit)) ≡ lay (spot at (now (out .entry))) (acceptedText (now (file .entry)) (now (pairs .entry)) (now (maps .entry)) psbt (now (tx .entry))) ⌝ }
+{
+    let fallback = psbt.fallback_locktime;
+    let to = put_head(out, at, psbt.inputs, fallback);
+    let to = put_inputs(out, to, file, pairs, maps, psbt);
+    let fresh = State {
+        set: false,
+        written: false,
+    };
+    let x = unsigned_tx::unsigned_tx(file, pairs, maps, psbt, fresh, &file[..0], tx);
+    let lock = lock::lock_decided(file, pairs, maps, psbt);
+    put_verdict(out, to, lock, x)
+}
+
+// The text of a file, parsed into these tables and with this room for the transaction.
+fn put_parsed(
+    out: &mut [u8],
+    at: usize,
+    file: &[u8],
+    pairs: &mut [u32],
+    maps: &mut [u32],
+    tx: &mut [u8],
+) -> usize
+    ensures { λ r. ⌜ spot r (now (out .exit)) ≡ lay (spot at (now (out .entry))) (whyIn (now (pairs .entry)) (now (maps .entry)) (now (tx .entry)) (now (file .entry))) ⌝ }
+{
+    match psbt::parse(file, pairs, maps) {
+        Parsed::Accepted {
+            psbt,
+            pairs: _,
+            maps: _,
+        } => put_accepted(out, at, file, pairs, maps, psbt, tx),
+        Parsed::Refused {
+            error,
+            pairs: _,
+            maps: _,
+        } => put_refused(out, at, error),
+    }
+}
+
+// Puts the text of a file at `at`, as far as there is room, and answers the place behind it.
+pub fn put_why(out: &mut [u8], at: usize, file: &[u8]) -> usize
+    ensures { λ r. ⌜ spot r (now (out .exit)) ≡ lay (spot at (now (out .entry))) (why (now (file .entry))) ⌝ }
+{
+    if MOST < file.len() {
+        return put_refused(out, at, PsbtError::TooLong);
+    }
+    let mut pairs = pair_room();
+    let mut maps = map_room();
+    let mut tx = tx_room();
+    put_parsed(out, at, file, &mut pairs, &mut maps, &mut tx)
+}
+
+// Room for every text. An input's line takes at most 79 bytes (20,145 for 255 inputs), the lines before and behind
+// them at most 63, 48, 47 and 90.
+fn text_room() -> [u8; 20480]
+    ensures { λ r. ⌜ 20480 ≡ length r ⌝ }
+{
+    [0; 20480]
+}
+
+// Reads a file from one descriptor, until it ends or is too long, and writes its text to another.
+pub fn why_input(from: i32, to: i32) -> bool {
+    let mut file = file_room();
+    let mut out = text_room();
+    let got = io::read_full(from, &mut file);
+    let end = put_why(&mut out, 0, &file[..got]);
+    write_text(to, &out, end)
+}
