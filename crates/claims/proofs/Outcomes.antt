@@ -7,10 +7,11 @@ use Rattle.format.specs.Fields.{amount, finalScriptsig, finalScriptwitness, get
 use Rattle.format.specs.Lookups.{keyPart, list, look, nth, part, valuePart}
 use Rattle.format.specs.Parse.{ParseOut, parsed}
 use Rattle.format.specs.Parse as R
-use Rattle.format.specs.Scripts.{SetOut, setOut, flat, setScripts}
+use Rattle.format.specs.Scripts.{SetOut, setOut, whole, flat, setScripts}
 use Rattle.format.specs.Tables.{held, heldInput, heldOutput, view}
 use Rattle.format.specs.Told.{Told, toldLeft, toldListing, toldLock, toldLooked, toldNth, toldNumbered, toldParse, toldParsed, toldScript, toldSet, toldSetOut, toldTx, toldTxOut, toldUtxo, toldWith}
 use Rattle.format.specs.Transaction.{TxOut, txOut, lockDecided, outputScript, scriptPart, unsignedTx}
+use Rattle.format.specs.declared.Assignment.{Assignment}
 use Rattle.format.specs.declared.Listing.{Listing}
 use Rattle.format.specs.declared.Lock.{Lock}
 use Rattle.format.specs.declared.Looked.{Looked}
@@ -233,3 +234,10 @@ module _ (file pairs maps : List ℕ) (psbt : Psbt) where
 
   pub one-outcome-output-output-script-part : (state : State) (scripts : List ℕ) (i : ℕ) → One (λ r. r ≡ scriptPart file scripts (outputScript file state scripts i (heldOutput file pairs maps psbt i)))
   one-outcome-output-output-script-part state scripts i = one-part _
+
+  -- the setter over records, which stands in a crate of its own (`struct_setter`)
+  pub one-outcome-struct-setter-set-sp-output-scripts : (list : List Assignment) (buffer : List ℕ) (state : State) (scripts : List ℕ) → OneWith (λ r scripts₁. toldLeft (toldSet r) scripts₁ ≡ toldSetOut (setScripts (view file pairs maps psbt) psbt (whole list) buffer state scripts))
+  one-outcome-struct-setter-set-sp-output-scripts list buffer state scripts = one-set _
+
+  pub one-outcome-struct-setter-set-two : (list : List Assignment) (buffer : List ℕ) (state : State) (scripts : List ℕ) → OneWith (λ r scripts₁. toldLeft (toldSet r) scripts₁ ≡ toldSetOut (setScripts (view file pairs maps psbt) psbt (whole list) buffer state scripts))
+  one-outcome-struct-setter-set-two list buffer state scripts = one-set _
