@@ -5,6 +5,7 @@ use answer_lines::put;
 use answer_lines::put_hex;
 use answer_lines::put_refusal;
 use answer_lines::put_refused;
+use format::Assignment;
 use format::Looked;
 use format::Parsed;
 use format::Psbt;
@@ -123,6 +124,47 @@ pub fn put_tx(
     }
 }
 
+// The assignment whose three numbers begin at `at`; zeros where there are fewer.
+fn assignment(list: &[u64], at: usize) -> Assignment {
+    if list.len() < 3 {
+        return no_assignment();
+    }
+    if list.len() - 3 < at {
+        return no_assignment();
+    }
+    Assignment {
+        output: list[at],
+        start: list[at + 1],
+        len: list[at + 2],
+    }
+}
+
+fn no_assignment() -> Assignment {
+    Assignment {
+        output: 0,
+        start: 0,
+        len: 0,
+    }
+}
+
+// Sets scripts: two assignments as records, any other number of them as a list of numbers, so that both setters are run.
+fn set_scripts(
+    file: &[u8],
+    pairs: &[u32],
+    maps: &[u32],
+    psbt: Psbt,
+    list: &[u64],
+    buffer: &[u8],
+    state: State,
+    scripts: &mut [u8],
+) -> ScriptsSet {
+    if list.len() == 6 {
+        let two = [assignment(list, 0), assignment(list, 3)];
+        return struct_setter::set_two(file, pairs, maps, psbt, two, buffer, state, scripts);
+    }
+    setter::set_sp_output_scripts(file, pairs, maps, psbt, list, buffer, state, scripts)
+}
+
 // What the setter answers.
 pub fn put_set(
     file: &[u8],
@@ -135,7 +177,7 @@ pub fn put_set(
     out: &mut [u8],
     job: Job,
 ) -> Job {
-    match setter::set_sp_output_scripts(
+    match set_scripts(
         file,
         pairs,
         maps,
