@@ -1,5 +1,6 @@
-//! A small safe wrapper of the library, for the calls that the example needs; `include/fastpsbt.h` has them all. What a caller owes from C (valid,
-//! aligned, apart) Rust's slices keep by themselves, so no call here is unsafe to its user. Nothing is allocated.
+//! A small safe wrapper of the library, for the calls that the example and the bench need; `include/fastpsbt.h` has them
+//! all. What a caller owes from C (valid, aligned, apart) Rust's slices keep by themselves, so no call here is unsafe to
+//! its user. Nothing is allocated.
 
 /// An answer's words: how many values there are, the values, and zeros.
 pub type Words = [u64; 8];
@@ -35,10 +36,12 @@ macro_rules! declared {
     ($($name:ident($($more:ty),*);)*) => {
         extern "C" {
             fn fastpsbt_parse(
-                file: *const u8, file_len: usize, pairs: *mut u32, pairs_len: usize, maps: *mut u32, maps_len: usize, answer: *mut u64, answer_len: usize,
+                file: *const u8, file_len: usize, pairs: *mut u32, pairs_len: usize,
+                maps: *mut u32, maps_len: usize, answer: *mut u64, answer_len: usize,
             ) -> u64;
             $(fn $name(
-                file: *const u8, file_len: usize, pairs: *const u32, pairs_len: usize, maps: *const u32, maps_len: usize, report: *const u64, report_len: usize,
+                file: *const u8, file_len: usize, pairs: *const u32, pairs_len: usize,
+                maps: *const u32, maps_len: usize, report: *const u64, report_len: usize,
                 $(_: $more,)* answer: *mut u64, answer_len: usize,
             ) -> u64;)*
         }
@@ -97,10 +100,21 @@ impl<'a> Psbt<'a> {
         // Safety: each pointer and length is a slice's, and those that are written are borrowed as such.
         let number = unsafe {
             fastpsbt_parse(
-                file.as_ptr(), file.len(), pairs.as_mut_ptr(), pairs.len(), maps.as_mut_ptr(), maps.len(), report.as_mut_ptr(), report.len(),
+                file.as_ptr(),
+                file.len(),
+                pairs.as_mut_ptr(),
+                pairs.len(),
+                maps.as_mut_ptr(),
+                maps.len(),
+                report.as_mut_ptr(),
+                report.len(),
             )
         };
-        if number == 0 { Ok(Psbt { file, pairs, maps, report }) } else { Err(Refused(number)) }
+        if number == 0 {
+            Ok(Psbt { file, pairs, maps, report })
+        } else {
+            Err(Refused(number))
+        }
     }
 
     pub fn inputs(&self) -> u64 {
@@ -152,21 +166,46 @@ impl<'a> Psbt<'a> {
     }
 
     /// Sets scripts, each given in `list` by output, start in `buffer` and length. `scripts` takes 35 bytes for each output.
-    pub fn set_sp_output_scripts(&self, list: &[u64], buffer: &[u8], state: State, scripts: &mut [u8]) -> Result<State, Refused> {
+    pub fn set_sp_output_scripts(
+        &self,
+        list: &[u64],
+        buffer: &[u8],
+        state: State,
+        scripts: &mut [u8],
+    ) -> Result<State, Refused> {
         let answer = asked!(
             self,
             fastpsbt_set_sp_output_scripts(
-                list.as_ptr(), list.len(), buffer.as_ptr(), buffer.len(), state.set, state.written, scripts.as_mut_ptr(), scripts.len()
+                list.as_ptr(),
+                list.len(),
+                buffer.as_ptr(),
+                buffer.len(),
+                state.set,
+                state.written,
+                scripts.as_mut_ptr(),
+                scripts.len()
             )
         )?;
         Ok(State { set: answer[1], written: answer[2] })
     }
 
     /// Writes the unsigned transaction to the front of `out`: that part of it, and the new state.
-    pub fn unsigned_tx<'b>(&self, state: State, scripts: &[u8], out: &'b mut [u8]) -> Result<(&'b [u8], State), Refused> {
+    pub fn unsigned_tx<'b>(
+        &self,
+        state: State,
+        scripts: &[u8],
+        out: &'b mut [u8],
+    ) -> Result<(&'b [u8], State), Refused> {
         let answer = asked!(
             self,
-            fastpsbt_unsigned_tx(state.set, state.written, scripts.as_ptr(), scripts.len(), out.as_mut_ptr(), out.len())
+            fastpsbt_unsigned_tx(
+                state.set,
+                state.written,
+                scripts.as_ptr(),
+                scripts.len(),
+                out.as_mut_ptr(),
+                out.len()
+            )
         )?;
         Ok((&out[..answer[1] as usize], State { set: answer[2], written: answer[3] }))
     }
