@@ -1,3 +1,4 @@
 pub mod Runs
 pub mod Gathers
 pub mod Fields
+pub mod Inputs

@@ -1,5 +1,5 @@
 -- Laws of comparing two keys byte by byte: the order from a place on is the order of the whole as long as the bytes before it are equal.
-use mathlib.Core.Path.{_≡_}
+use mathlib.Core.Path.{_≡_, refl}
 use mathlib.Core.List.{List}
 use Prim.Native.Nat.{ℕ, _+_, _≤_, _<_}
 use native.Mathlib.Omega.{arith}
@@ -8,16 +8,15 @@ use borrow.Author.Tests.{lt-ltb, le-ltb}
 use lib.ListN.{length, drop, getD, drop-of-length-le}
 use lib.Seq.{drop-cons}
 use Rattle.format.specs.Keys.{order}
-use Rattle.keys.specs.Fronts.{orderFrom}
+use Rattle.keys.specs.Fronts.{Front}
 use Rattle.format.specs.declared.Order.the-variants.{Below, Same, Above}
 
 -- from i on the order is that of the whole
 abbrev pub On : List ℕ → List ℕ → ℕ → Type 0
 On a b i = order (drop i a) (drop i b) ≡ order a b
 
-pub on-from : (a b : List ℕ) (i : ℕ) → orderFrom i a b ≡ order a b → On a b i
-unfolding orderFrom
-on-from a b i e = e
+pub on-front : (a b : List ℕ) (i : ℕ) → Front a b i → On a b i
+on-front a b i f = f .on
 
 module _ (a b : List ℕ) (i : ℕ) (on : On a b i) where
   pub is-same : length a ≤ i → length b ≤ i → Same ≡ order a b
@@ -47,4 +46,18 @@ module _ (a b : List ℕ) (i : ℕ) (on : On a b i) where
   on-more h k l m =
       rw add-one (rw (drop-cons a i 0 h, drop-cons b i 0 k, le-ltb (getD a i 0) (getD b i 0) l, le-ltb (getD b i 0) (getD a i 0) m) at on)
 
-pub ruleset orders = (on-from, is-same, is-prefix, is-longer, is-below, is-above, on-more)
+pub ruleset orders = (on-front, is-same, is-prefix, is-longer, is-below, is-above, on-more)
+
+-- and from the first byte on
+module _ (a b : List ℕ) where
+  pub first-longer : (length a ≡ 0 → ⊥) → length b ≡ 0 → Above ≡ order a b
+  first-longer h k = is-longer a b 0 refl (omega arith) (omega arith)
+
+  module _ (h : length a ≡ 0 → ⊥) (k : length b ≡ 0 → ⊥) where
+    pub first-below : getD a 0 0 < getD b 0 0 → Below ≡ order a b
+    first-below l = is-below a b 0 refl (omega arith) (omega arith) l
+
+    pub first-above : getD b 0 0 < getD a 0 0 → Above ≡ order a b
+    first-above l = is-above a b 0 refl (omega arith) (omega arith) l
+
+pub ruleset firsts = (first-longer, first-below, first-above)

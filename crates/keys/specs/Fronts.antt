@@ -1,15 +1,16 @@
 -- Two keys from a place on.
-use Prim.Native.Nat.{ℕ}
+use Prim.Native.Nat.{ℕ, _≤_}
+use mathlib.Core.Path.{_≡_}
 use mathlib.Core.List.{List}
-use lib.ListN.{take, drop}
+use lib.ListN.{length, take, drop}
 use Rattle.format.specs.Keys.{order}
 use Rattle.format.specs.Numbers.{le}
-use Rattle.format.specs.declared.Order.{Order}
 
--- the number that the eight bytes from i on spell
-unfoldable pub eightAt : List ℕ → ℕ → ℕ
-eightAt s i = le (take 8 (drop i s))
+-- the number that the w bytes from i on spell
+unfoldable pub blockAt : ℕ → List ℕ → ℕ → ℕ
+blockAt w s i = le (take w (drop i s))
 
--- how what two keys have from i on stands to each other
-unfoldable pub orderFrom : ℕ → List ℕ → List ℕ → Order
-orderFrom i a b = order (drop i a) (drop i b)
+-- the order of what two keys have from i on is theirs, and i stays in the first
+pub record Front (a b : List ℕ) (i : ℕ) : Type 0 where
+  pub on : order (drop i a) (drop i b) ≡ order a b
+  pub in-a : i ≤ length a

@@ -3,6 +3,7 @@ use mathlib.Core.Path.{_≡_, refl, sym, _∙_, ap}
 use mathlib.Core.Bool.{Bool, true, false, _&&_}
 use mathlib.Core.List.{List, [], _∷_}
 use Prim.Native.Nat.{ℕ, _+_, _-_, _%_, _≤_, _<_}
+use native.Mathlib.Numerals.{add-one}
 use native.Mathlib.Omega.{arith}
 use borrow.Author.Tests.{leb-true, ltb-false, le-ltb, eq-eqb, ne-eqb}
 use lib.Dec.{leb, ltb, eqb}
@@ -22,7 +23,8 @@ use Rattle.format.specs.declared.MapEntry.{MapEntry}
 use Rattle.format.specs.declared.Looked.{Looked}
 use Rattle.format.specs.declared.Looked.the-variants.{Refused, Absent, At}
 use Rattle.format.specs.declared.Numbered.the-variants as N
-use Rattle.format.proofs.Tests.{pick-by, and-left, and-right}
+use Rattle.format.proofs.Tests.{pick-by, and-left, and-right, no-by}
+use Rattle.format.proofs.Keys.{same-is}
 use Rattle.format.proofs.Told.{looked-one}
 use Rattle.format.specs.Told.{toldLooked}
 use Rattle.wire.specs.Leads.{lead}
@@ -48,23 +50,23 @@ unfolding same keyOf order
 own-type t x d k h = rw (le-ltb t x (omega arith), le-ltb x t (omega arith))
 
 module _ (t : ℕ) (d : List ℕ) where
-  pub key-none : (k g : List ℕ) → k ≡ g → length k ≡ 0 → false ≡ same (keyOf t d) g
-  unfolding same keyOf order isSame
-  key-none [] g is h = ap (same (keyOf t d)) is
-  key-none (x ∷ k) g is h = absurd (omega arith)
+  pub key-length : (k g : List ℕ) → k ≡ g → (length k ≡ length d + 1 → ⊥) → false ≡ same (keyOf t d) g
+  unfolding keyOf
+  key-length k g is h =
+      sym (no-by (same (keyOf t d) g) (λ q. let e : length (t ∷ d) ≡ length g = ap length (same-is (keyOf t d) g q) in h (ap length is ∙ sym e ∙ sym (add-one (length d)))))
 
-  pub key-typed : (k g : List ℕ) → k ≡ g → (length k ≡ 0 → ⊥) → (getD k 0 0 ≡ t → ⊥) → false ≡ same (keyOf t d) g
-  key-typed [] g is some h = absurd (some refl)
+  pub key-typed : (k g : List ℕ) → k ≡ g → length k ≡ length d + 1 → (getD k 0 0 ≡ t → ⊥) → false ≡ same (keyOf t d) g
+  key-typed [] g is some h = absurd (omega arith)
   key-typed (x ∷ k) g is some h = sym (other-type t x d k h) ∙ ap (same (keyOf t d)) is
 
-  pub key-same : (k g : List ℕ) → k ≡ g → (length k ≡ 0 → ⊥) → getD k 0 0 ≡ t → (r : Bool) (o : Order) → r ≡ isSame o → o ≡ order d (take (length k - 1) (drop 1 k))
+  pub key-same : (k g : List ℕ) → k ≡ g → length k ≡ length d + 1 → getD k 0 0 ≡ t → (r : Bool) (o : Order) → r ≡ isSame o → o ≡ order d (take (length k - 1) (drop 1 k))
       → r ≡ same (keyOf t d) g
   unfolding same
-  key-same [] g is some h r o er eo = absurd (some refl)
+  key-same [] g is some h r o er eo = absurd (omega arith)
   key-same (x ∷ k) g is some h r o er eo =
       er ∙ ap isSame (eo ∙ ap (order d) (part-rest 1 (x ∷ k))) ∙ sym (own-type t x d k h) ∙ ap (same (keyOf t d)) is
 
-pub ruleset keys = (key-none, key-typed, key-same)
+pub ruleset keys = (key-length, key-typed, key-same)
 
 -- where a key's value stands among the n pairs from number i on is where it stands
 pub record Finding (f key P : List ℕ) (first count i n : ℕ) : Type 0 where

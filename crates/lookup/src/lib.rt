@@ -52,7 +52,7 @@ fn bytes_at(file: &[u8], start: usize, len: usize) -> &[u8]
 }
 
 // The key and the value that an entry names.
-fn key_in(file: &[u8], e: PairEntry) -> &[u8]
+pub fn key_in(file: &[u8], e: PairEntry) -> &[u8]
     ensures { λ r. ⌜ now r ≡ keyIn (now (file .entry)) e ⌝ }
 {
     bytes_at(file, e.key, e.klen)
@@ -232,14 +232,13 @@ fn is_key(file: &[u8], e: PairEntry, key_type: u8, key_data: &[u8]) -> bool
     ensures { λ r. ⌜ r ≡ same (keyOf «key_type» (now («key_data» .entry))) (keyIn (now (file .entry)) e) ⌝ }
 {
     let key = key_in(file, e);
-    if key.len() == 0 {
-        false
-    } else if key[0] == key_type {
-        let data = &key[1..];
-        is_same(keys::compare(key_data, data))
-    } else {
-        false
+    if key.len() != key_data.len() + 1 {
+        return false;
     }
+    if key[0] != key_type {
+        return false;
+    }
+    is_same(keys::compare(key_data, &key[1..]))
 }
 
 // Where the value of the asked key stands.

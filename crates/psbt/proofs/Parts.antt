@@ -23,8 +23,8 @@ use Rattle.format.specs.declared.Size.the-variants as Z
 use Rattle.format.specs.declared.Maybe.{Maybe}
 use Rattle.format.specs.declared.Maybe.the-variants.{Absent, Present}
 use Rattle.format.specs.Rules.{GLOBAL, OUTPUT}
-use Rattle.format.proofs.Tests.{no-by, pick-by}
-use Rattle.format.proofs.Keys.{same-is, same-self}
+use Rattle.format.proofs.Tests.{pick-by}
+use Rattle.keys.proofs.Bare.{bare-not}
 use Rattle.wire.specs.Leads.{lead}
 use Rattle.format.specs.Locks.{orZero}
 use Rattle.psbt.specs.Walks.{notedBy, asNumber, asCount, asThere, noted, notedCount, notedThere, noteGlobal, noteOutput, withGlobals, withSeen, note, there, allThere, versionRule, globalsRule, psbtFrom, flags}
@@ -32,26 +32,6 @@ use Rattle.psbt.proofs.Notes.{note-global, note-output}
 use Rattle.psbt.specs.declared.Globals.{Globals}
 use Rattle.psbt.specs.declared.Seen.{Seen}
 use Rattle.psbt.specs.declared.Walk.{Walk}
-
--- a key is a type without data
-bare-byte : (t x : ℕ) → eqb x t ≡ same (t ∷ []) (x ∷ [])
-bare-byte t x = by (eqb x t) refl
-  where
-    by : (b : Bool) → eqb x t ≡ b → b ≡ same (t ∷ []) (x ∷ [])
-    by true q = let e : x ≡ t = eqb-true x t q in rw e (sym (same-self (t ∷ [])))
-    by false q = sym (no-by (same (t ∷ []) (x ∷ [])) (λ h. let e = same-is (t ∷ []) (x ∷ []) h in let f : x ≡ t = cc in eqb-false x t q f))
-
-pub bare-one : (key : List ℕ) (t : ℕ) → length key ≡ 1 → eqb (getD key 0 0) t ≡ same (keyOf t []) key
-unfolding keyOf
-bare-one [] t h = absurd (omega arith)
-bare-one (x ∷ []) t h = bare-byte t x
-bare-one (x ∷ y ∷ key) t h = absurd (omega arith)
-
-pub bare-not : (key : List ℕ) (t : ℕ) → (length key ≡ 1 → ⊥) → false ≡ same (keyOf t []) key
-unfolding keyOf
-bare-not key t h = sym (no-by (same (t ∷ []) key) (λ q. h (ap length (sym (same-is (t ∷ []) key q)))))
-
-pub ruleset bare = (bare-one, bare-not)
 
 -- the value of a compact size
 pub size-bad : (x : Size) (e : PsbtError) → x ≡ Z.Bad e → 0 ≡ sizeValue x

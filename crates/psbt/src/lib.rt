@@ -2,7 +2,7 @@
 ghost use mathlib.Core.Path.{_≡_};
 ghost use mathlib.Core.Bool.{_&&_};
 ghost use mathlib.Core.List.{[]};
-ghost use Rattle.format.specs.Keys.{keyOf, same};
+ghost use Rattle.format.specs.Keys.{same};
 ghost use Rattle.format.specs.Numbers.{signed};
 ghost use Rattle.format.specs.Content.{magic, sizeValue, outputBy};
 ghost use Rattle.format.specs.Locks.{orZero};
@@ -40,6 +40,7 @@ use format::PsbtError;
 use format::Ruled;
 use format::Size;
 use keys::compare;
+use keys::is_bare;
 use parsed_map::Item;
 use parsed_map::next_item;
 use wire::u32_from_le_bytes;
@@ -88,17 +89,6 @@ pub enum Next {
     Stop(PsbtError),
     Done(Psbt),
     Map(Walk),
-}
-
-// A key is a type without data.
-fn is_bare(key: &[u8], key_type: u8) -> bool
-    ensures { λ r. ⌜ r ≡ same (keyOf «key_type» []) (now (key .entry)) ⌝ }
-{
-    if key.len() == 1 {
-        key[0] == key_type
-    } else {
-        false
-    }
 }
 
 // The value of a compact size, 0 where it could not be read.

@@ -2,18 +2,22 @@
 use mathlib.Core.Path.{_≡_, refl, sym, _∙_, ap}
 use mathlib.Core.List.{List, [], _∷_}
 use mathlib.Core.Bool.{Bool, true, false}
-use Prim.Native.Nat.{ℕ, suc, _-_, _≤_, _<_, min}
+use Prim.Native.Nat.{ℕ, suc, _+_, _-_, _≤_, _<_, min}
 use native.Mathlib.Omega.{arith}
+use native.Mathlib.Numerals.{add-one}
 use borrow.Author.Tests.{lt-ltb, le-ltb, eq-eqb, ne-eqb, le-leb, lt-leb, leb-true, leb-false}
-use lib.Dec.{leb, leb·suc-suc}
+use lib.Dec.{leb, eqb, leb·suc-suc}
 use lib.ListN.{length, take, drop, getD, length-take, length-drop}
 use lib.Seq.{take-all, take-take}
+use mir.Syntax.{w64}
+use mir.Val.{Fits}
+use Rattle.format.specs.Tests.{pick}
 use Rattle.format.specs.Compact.{long, sizeBy, size, countBy, count}
 use Rattle.format.specs.declared.PsbtError.{PsbtError}
 use Rattle.format.specs.declared.PsbtError.the-variants.{UnexpectedEof, InvalidCompactSize}
 use Rattle.format.specs.declared.Size.{Size}
 use Rattle.format.specs.declared.Size.the-variants.{Bad, Read}
-use Rattle.wire.specs.Leads.{lead, spelled, Long}
+use Rattle.wire.specs.Leads.{lead, spelled, width, Long}
 
 -- a part to the end, as the rule for `&s[a..]` has it
 pub part-rest : (a : ℕ) (s : List ℕ) → take (length s - a) (drop a s) ≡ drop a s
@@ -44,33 +48,54 @@ long-spelled : (n w v : ℕ) (r : List ℕ) → n ≡ suc (length r) → v ≡ l
 unfolding spelled long lead
 long-spelled n w v r h e = rw (h, e, leb·suc-suc w (length r))
 
-module _ (s : List ℕ) (is : Long s) where
-  abbrev b : ℕ
-  b = getD s 0 0
+-- how many bytes follow, each way
+pub width-fd : (b : ℕ) → b ≡ 0xfd → 2 ≡ width b
+unfolding width
+width-fd b h = rw h
 
-  abbrev r : List ℕ
-  r = take (length s - 1) (drop 1 s)
+pub width-fe : (b : ℕ) → b ≡ 0xfe → 4 ≡ width b
+unfolding width
+width-fe b h = rw h
 
-  rest-length : length s ≡ suc (length r)
-  rest-length = rw (part-rest 1 s, length-drop) (omega (arith, is .some))
+pub width-ff : (b : ℕ) → (b ≡ 0xfd → ⊥) → (b ≡ 0xfe → ⊥) → 8 ≡ width b
+unfolding width
+width-ff b x y = rw (ne-eqb b 0xfd x, ne-eqb b 0xfe y)
 
-  module _ (o : Size) (v : ℕ) where
-    size-long : (w : ℕ) → sizeBy b r ≡ long w r → v ≡ lead w r → o ≡ spelled (length s) (suc w) v → o ≡ size s
-    size-long w h e f = f ∙ long-spelled (length s) w v r rest-length e ∙ sym (size-cons s (is .some) ∙ h)
+pub ruleset widths = (width-fd, width-fe, width-ff)
 
-    pub size-fd : b ≡ 0xfd → v ≡ lead 2 r → o ≡ spelled (length s) 3 v → o ≡ size s
-    unfolding sizeBy
-    size-fd h e f = size-long 2 (rw h) e f
+-- they are at most eight, and the first byte leads to them
+pick-most : (c : Bool) (x y : ℕ) → x ≤ 8 → y ≤ 8 → pick c x y ≤ 8
+pick-most true x y h k = h
+pick-most false x y h k = k
 
-    pub size-fe : b ≡ 0xfe → v ≡ lead 4 r → o ≡ spelled (length s) 5 v → o ≡ size s
-    unfolding sizeBy
-    size-fe h e f = size-long 4 (rw h) e f
+width-most : (b : ℕ) → width b ≤ 8
+unfolding width
+width-most b = pick-most (eqb b 0xfd) 2 _ (omega arith) (pick-most (eqb b 0xfe) 4 8 (omega arith) (omega arith))
 
-    pub size-ff : (b ≡ 0xfd → ⊥) → (b ≡ 0xfe → ⊥) → v ≡ lead 8 r → o ≡ spelled (length s) 9 v → o ≡ size s
-    unfolding sizeBy
-    size-ff x y e f = size-long 8 (rw (le-ltb b 0xfd (is .above), ne-eqb b 0xfd x, ne-eqb b 0xfe y)) e f
+pick-long : (c : Bool) (x y : ℕ) (r : List ℕ) → pick c (long x r) (long y r) ≡ long (pick c x y) r
+pick-long true x y r = refl
+pick-long false x y r = refl
 
-pub ruleset longs = (size-fd, size-fe, size-ff)
+size-width : (b : ℕ) (r : List ℕ) → 0xfd ≤ b → sizeBy b r ≡ long (width b) r
+unfolding sizeBy width
+size-width b r h =
+    rw (le-ltb b 0xfd h, pick-long (eqb b 0xfe) 4 8 r, pick-long (eqb b 0xfd) 2 (pick (eqb b 0xfe) 4 8) r) refl
+
+module _ (w b : ℕ) (e : w ≡ width b) where
+  pub long-most : w ≤ 8
+  long-most = rw e (width-most b)
+
+  pub long-fits : Fits w64 (w + 1)
+  long-fits = record { fits = omega (arith, long-most) }
+
+-- the rest behind the first byte, as the code has it
+pub size-long : (s : List ℕ) (o : Size) (w v : ℕ) → Long s → w ≡ width (getD s 0 0) → v ≡ lead w (take (length s - 1) (drop 1 s)) → o ≡ spelled (length s) (w + 1) v → o ≡ size s
+size-long s o w v is e f g =
+    let r = take (length s - 1) (drop 1 s) in
+    let l : length s ≡ suc (length r) = rw (part-rest 1 s, length-drop) (omega (arith, is .some)) in
+    g ∙ ap (λ (n : ℕ). spelled (length s) n v) (add-one w) ∙ long-spelled (length s) w v r l f ∙ sym (size-cons s (is .some) ∙ size-width (getD s 0 0) r (is .above) ∙ ap (λ (n : ℕ). long n r) (sym e))
+
+pub ruleset longs = (long-most, long-fits, size-long)
 
 -- a count, by what was read of it
 module _ (n : ℕ) (s : List ℕ) (o : Size) (is : o ≡ size s) where

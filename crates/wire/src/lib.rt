@@ -6,7 +6,7 @@ ghost use Prim.Native.Nat.{_≤_};
 ghost use lib.ListN.{length};
 ghost use Rattle.format.specs.Numbers.{le};
 ghost use Rattle.format.specs.Compact.{size, count, countBy};
-ghost use Rattle.wire.specs.Leads.{lead, spelled, Long};
+ghost use Rattle.wire.specs.Leads.{lead, spelled, width, Long};
 ghost use Rattle.wire.specs.Cursors.{cursor, remaining, takeAt, sizeAt, prefixedAt};
 
 fn wide(x: u8) -> u64
@@ -39,12 +39,6 @@ fn lead(s: &[u8], w: usize) -> u64
 }
 
 // The same at the widths in use.
-pub fn u16_from_le_bytes(s: &[u8]) -> u16
-    ensures { λ r. ⌜ r ≡ lead 2 (now (s .entry)) ⌝ }
-{
-    lead(s, 2) as u16
-}
-
 pub fn u32_from_le_bytes(s: &[u8]) -> u32
     ensures { λ r. ⌜ r ≡ lead 4 (now (s .entry)) ⌝ }
 {
@@ -68,21 +62,26 @@ fn spelled(len: usize, used: usize, value: u64) -> Size
     }
 }
 
-// A compact size of more than one byte: 2, 4 or 8 bytes after fd, fe or ff.
+// How many bytes follow fd, fe or ff.
+fn width(b: u8) -> usize
+    ensures { λ r. ⌜ r ≡ width b ⌝ }
+{
+    if b == 0xfd {
+        return 2;
+    }
+    if b == 0xfe {
+        return 4;
+    }
+    8
+}
+
+// A compact size of more than one byte.
 fn read_long(s: &[u8]) -> Size
     requires { ⌜ Long (now s) ⌝ }
     ensures { λ r. ⌜ r ≡ size (now (s .entry)) ⌝ }
 {
-    let len = s.len();
-    let rest = &s[1..];
-    let b = s[0];
-    if b == 0xfd {
-        return spelled(len, 3, u16_from_le_bytes(rest) as u64);
-    }
-    if b == 0xfe {
-        return spelled(len, 5, u32_from_le_bytes(rest) as u64);
-    }
-    spelled(len, 9, u64_from_le_bytes(rest))
+    let w = width(s[0]);
+    spelled(s.len(), w + 1, lead(&s[1..], w))
 }
 
 // A compact size at the front of some bytes: one byte up to fc, or a longer form.

@@ -1,38 +1,25 @@
--- `keys::compare` meets its contract, from the place behind the equal blocks on. The loop's invariant: the order from `i` on is that of the whole. The measure is what is left of `a`.
-use Prim.Native.Nat.{_-_}
+-- `keys::compare` meets its contract: where the first bytes differ they decide.
 use borrow.Author.Needs.{needs}
-use lib.ListN.{length}
-use Rattle.keys.proofs.Orders.{On, orders}
+use Rattle.keys.proofs.Orders.{firsts}
 use Rattle.keys.proofs.compare.Statement.{statement}
 use Rattle.keys.proofs.compare.Tie as tie
 use Rattle.keys.proofs.compare.Reads as reads
 use Rattle.keys.proofs.compare.Lts as lts
-use Rattle.keys.proofs.same_front.Reads as same-front-reads
+use Rattle.keys.proofs.compare_blocks.Reads as compare-blocks-reads
 
-abbrev Inv-loop : tie.InvT-loop
-Inv-loop a b i₀ i = On a b i
-
-abbrev μ-loop : tie.MeasureT-loop
-μ-loop a b i₀ i = length a - i
-
--- needs: needs, orders
+-- needs: needs, firsts
 pub compare-spec : {M : Type 1} → statement M
 compare-spec =
     tie.close
     (tie.spec
-    Inv-loop
-    μ-loop
-    (λ c κs. search (needs, orders))
-    (λ c. search (needs, orders))
-    (λ c. search (needs, orders))
-    (λ c. search (needs, orders))
-    (λ c. search (needs, orders))
-    (λ c. search (needs, orders))
-    (λ c. search (needs, orders))
-    (λ c. search (needs, orders))
-    (λ c. search (needs, orders))
-    (λ c. search (needs, orders))
-    (λ c. search (needs, orders))
-    (λ c. search (needs, orders))
-    (λ c. search (needs, orders))
-    (λ c. search (needs, orders)))
+    (λ c κs. search (needs, firsts))
+    (λ c. search (needs, firsts))
+    (λ c. search (needs, firsts))
+    (λ c. search (needs, firsts))
+    (λ c. search (needs, firsts))
+    (λ c. search (needs, firsts))
+    (λ c. search (needs, firsts))
+    (λ c. search (needs, firsts))
+    (λ c. search (needs, firsts))
+    (λ c κs. search (needs, firsts))
+    (λ c. search (needs, firsts)))

@@ -2,7 +2,8 @@
 use Prim.Native.Nat.{_-_}
 use borrow.Author.Needs.{needs}
 use lib.ListN.{length}
-use Rattle.keys.proofs.Blocks.{Front, front-more, blocks}
+use Rattle.keys.specs.Fronts.{Front}
+use Rattle.keys.proofs.Blocks.{front-more, blocks}
 use Rattle.keys.proofs.same_front.Statement.{statement}
 use Rattle.keys.proofs.same_front.Tie as tie
 use Rattle.keys.proofs.same_front.Reads as reads
@@ -19,7 +20,7 @@ loop-again : tie.Need-loop-again Inv-loop μ-loop
 loop-again c =
     let w = c .before .before .before in
     let s = w .before .before .before in
-    front-more _ _ _ (w .before .before .loop .inv) _ _ (w .before .loop-test .taken) (w .if1 .left) (c .before .before .eight-at .ensures)
+    front-more _ _ _ (w .before .before .loop .inv) _ _ _ (w .before .loop-test .taken) (w .if1 .left) (c .before .before .eight-at .ensures)
     (c .before .eight-at2 .ensures) (c .if2 .left) (s .before .shared-slice-known .given) (s .shared-slice-known2 .given)
 
 -- needs: needs, blocks

@@ -5,7 +5,7 @@ use Rattle.psbt.proofs.noted.Statement.{statement}
 use Rattle.psbt.proofs.noted.Tie as tie
 use Rattle.psbt.proofs.noted.Reads as reads
 use Rattle.psbt.proofs.noted.Lts as lts
-use Rattle.psbt.proofs.is_bare.Reads as is-bare-reads
+use Rattle.keys.proofs.is_bare.Reads as is-bare-reads
 use Rattle.wire.proofs.u32_from_le_bytes.Reads as u32-from-le-bytes-reads
 
 -- needs: needs, notes

@@ -5,7 +5,7 @@ use Rattle.psbt.proofs.noted_count.Statement.{statement}
 use Rattle.psbt.proofs.noted_count.Tie as tie
 use Rattle.psbt.proofs.noted_count.Reads as reads
 use Rattle.psbt.proofs.noted_count.Lts as lts
-use Rattle.psbt.proofs.is_bare.Reads as is-bare-reads
+use Rattle.keys.proofs.is_bare.Reads as is-bare-reads
 use Rattle.psbt.proofs.size_value.Reads as size-value-reads
 use Rattle.wire.proofs.u64_from_compact_size.Reads as u64-from-compact-size-reads
 
