@@ -2,16 +2,16 @@
 use mathlib.Core.Path.{_≡_, refl, sym, _∙_, ap}
 use mathlib.Core.Bool.{Bool, true, false}
 use mathlib.Core.List.{List, [], _∷_, map}
-use Prim.Native.Nat.{ℕ, _+_, _≤_, _<_}
+use Prim.Native.Nat.{ℕ, _+_, _≤_}
 use native.Mathlib.Omega.{arith}
 use borrow.Author.Tests.{eq-eqb, ne-eqb, eqb-true}
 use lib.Dec.{eqb}
 use lib.ListN.{length, take, drop, length-take, length-drop}
 use Rattle.format.specs.Keys.{keyOf, same}
-use Rattle.format.specs.Content.{Found, absent, found, find, field}
+use Rattle.format.specs.Content.{Found, found, find, field}
 use Rattle.format.specs.Entries.{keyIn, valueIn, shown}
 use Rattle.format.specs.Lookups.{place}
-use Rattle.format.specs.Locks.{Sized, is, sizedTo, inOf}
+use Rattle.format.specs.Locks.{is, sizedTo}
 use Rattle.format.specs.Scripts.{outOf}
 use Rattle.format.specs.declared.PsbtError.{PsbtError}
 use Rattle.format.specs.declared.PairEntry.{PairEntry}
@@ -19,12 +19,12 @@ use Rattle.format.specs.declared.MapEntry.{MapEntry}
 use Rattle.format.specs.declared.Psbt.{Psbt}
 use Rattle.format.specs.declared.Looked.{Looked}
 use Rattle.format.specs.declared.Looked.the-variants as K
-use Rattle.format.proofs.Tests.{pick-by, pick-ap}
+use Rattle.format.proofs.Tests.{pick-ap}
 use Rattle.entries.specs.Words.{pairCount, mapAt}
 use Rattle.lookup.specs.Fits.{entriesOf}
 use Rattle.lookup.specs.Walks.{Lies}
 use Rattle.lookup.proofs.Finds.{place-in}
-use Rattle.all_maps.specs.Alls.{Usable, pairsOf, inAt, outAt}
+use Rattle.all_maps.specs.Alls.{Usable, pairsOf, outAt}
 use Rattle.all_maps.specs.Places.{foundAt, fieldAt, sizedAt, foundIn, sizedIn}
 use Rattle.all_maps.specs.declared.FoundAt.{FoundAt}
 use Rattle.all_maps.specs.declared.FoundAt.the-variants as F
@@ -101,67 +101,11 @@ sized-is f P m t w x r u ex er =
 pub ruleset sized-fields = (usable-within, sized-is)
 
 -- what callers learn of a field of any length
-module _ (f P : List ℕ) (t : ℕ) (m : MapEntry) (x : FoundAt) (is : x ≡ fieldAt f P t m) where
-  pub found-shows : foundIn f x ≡ field t (map (shown f) (entriesOf P m))
-  unfolding fieldAt field
-  found-shows = ap (foundIn f) is ∙ place-shows f (keyOf t []) (entriesOf P m)
+pub found-shows : (f P : List ℕ) (t : ℕ) (m : MapEntry) (x : FoundAt) → x ≡ fieldAt f P t m → foundIn f x ≡ field t (map (shown f) (entriesOf P m))
+unfolding fieldAt field
+found-shows f P t m x e = ap (foundIn f) e ∙ place-shows f (keyOf t []) (entriesOf P m)
 
-  pub found-lies : Usable f P m → (s n : ℕ) → x ≡ F.At s n → s + n ≤ length f
-  unfolding fieldAt foundAt
-  found-lies u s n e = by (place f (keyOf t []) (entriesOf P m)) (place-in f (keyOf t []) [] (entriesOf P m) (u .fits)) (sym is ∙ e)
-    where
-      by : (o : Looked) → Lies f o → foundAt o ≡ F.At s n → s + n ≤ length f
-      by (K.Refused e) h q = let z : _≡_ {A = ℕ} 0 1 = cc in absurd (omega arith)
-      by K.Absent h q = let z : _≡_ {A = ℕ} 0 1 = cc in absurd (omega arith)
-      by (K.At a k) h q = let x : a ≡ s = cc in let y : k ≡ n = cc in omega (arith, h .inside a k refl)
-
--- and of a field of w bytes
-pub sized-lies : (w : ℕ) (f : List ℕ) (r : SizedAt) (y : Found) (s : ℕ) → sizedIn w f r ≡ sizedTo w y → 0 < w → r ≡ S.At s → s + w ≤ length f
-unfolding sizedIn sizedTo
-sized-lies w f r y s k h e = by y (sym (ap (sizedIn w f) e) ∙ k)
-  where
-    by : (y : Found) → is (take w (drop s f)) ≡ sizedTo w y → s + w ≤ length f
-    by absent = λ q. let z : _≡_ {A = ℕ} 0 1 = cc in absurd (omega arith)
-    by (found v) =
-        pick-by (λ (z : Sized). is (take w (drop s f)) ≡ z → s + w ≤ length f) (eqb (length v) w) _ _
-        (λ t q. let x : take w (drop s f) ≡ v = cc in
-        let l : length (take w (drop s f)) ≡ w = ap length x ∙ eqb-true (length v) w t in
-        omega (arith, rw (length-take, length-drop) at l))
-        (λ t q. let z : _≡_ {A = ℕ} 0 1 = cc in absurd (omega arith))
-
-pub ruleset found-fields = (found-shows, found-lies)
-
--- the record of an input or an output, by its fields
-module _ (f P M : List ℕ) (i : ℕ) (m : MapEntry) (e : m ≡ mapAt M (1 + i)) (x : Sized) where
-  pub in-txid : x ≡ sizedTo 32 (field 0x0e (map (shown f) (entriesOf P m))) → x ≡ (inAt f P M i) .txid
-  unfolding inAt inOf pairsOf
-  in-txid q = rw e at q
-
-  pub in-index : x ≡ sizedTo 4 (field 0x0f (map (shown f) (entriesOf P m))) → x ≡ (inAt f P M i) .index
-  unfolding inAt inOf pairsOf
-  in-index q = rw e at q
-
-  pub in-sequence : x ≡ sizedTo 4 (field 0x10 (map (shown f) (entriesOf P m))) → x ≡ (inAt f P M i) .sequence
-  unfolding inAt inOf pairsOf
-  in-sequence q = rw e at q
-
-  pub in-time : x ≡ sizedTo 4 (field 0x11 (map (shown f) (entriesOf P m))) → x ≡ (inAt f P M i) .time
-  unfolding inAt inOf pairsOf
-  in-time q = rw e at q
-
-  pub in-height : x ≡ sizedTo 4 (field 0x12 (map (shown f) (entriesOf P m))) → x ≡ (inAt f P M i) .height
-  unfolding inAt inOf pairsOf
-  in-height q = rw e at q
-
-pub ruleset in-fields = (in-txid, in-index, in-sequence, in-time, in-height)
-
-module _ (f P M : List ℕ) (s : Psbt) (i : ℕ) (m : MapEntry) (e : m ≡ mapAt M (1 + s .inputs + i)) where
-  pub out-amount : (x : Sized) → x ≡ sizedTo 8 (field 0x03 (map (shown f) (entriesOf P m))) → x ≡ (outAt f P M s i) .amount
-  unfolding outAt outOf pairsOf
-  out-amount x q = rw e at q
-
-  pub out-script : (x : Found) → x ≡ field 0x04 (map (shown f) (entriesOf P m)) → x ≡ (outAt f P M s i) .script
-  unfolding outAt outOf pairsOf
-  out-script x q = rw e at q
-
-pub ruleset out-fields = (out-amount, out-script)
+-- the script of an output
+pub out-script : (f P M : List ℕ) (s : Psbt) (i : ℕ) (m : MapEntry) → m ≡ mapAt M (1 + s .inputs + i) → (x : Found) → x ≡ field 0x04 (map (shown f) (entriesOf P m)) → x ≡ (outAt f P M s i) .script
+unfolding outAt outOf pairsOf
+out-script f P M s i m e x q = rw e at q

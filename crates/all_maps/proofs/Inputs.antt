@@ -16,7 +16,6 @@ use Rattle.format.specs.Lookups.{place}
 use Rattle.format.specs.Locks.{sizedTo, inOf}
 use Rattle.format.specs.declared.PairEntry.{PairEntry}
 use Rattle.format.specs.declared.MapEntry.{MapEntry}
-use Rattle.format.specs.declared.Looked.{Looked}
 use Rattle.format.specs.declared.Looked.the-variants as K
 use Rattle.keys.proofs.Bare.{bare-not}
 use Rattle.entries.specs.Words.{pairCount, pairAt}
@@ -122,12 +121,12 @@ module _ (f : List ℕ) (t w : ℕ) where
 
 -- all fields, one by one
 fields-from : (f : List ℕ) (a : InputAt) (es : List PairEntry) → inputFrom f a es ≡ record {
-    txid = fieldFrom f 0x0e 32 (a .txid) es;
-    index = fieldFrom f 0x0f 4 (a .index) es;
-    sequence = fieldFrom f 0x10 4 (a .sequence) es;
-    time = fieldFrom f 0x11 4 (a .time) es;
-    height = fieldFrom f 0x12 4 (a .height) es;
-  }
+  txid = fieldFrom f 0x0e 32 (a .txid) es;
+  index = fieldFrom f 0x0f 4 (a .index) es;
+  sequence = fieldFrom f 0x10 4 (a .sequence) es;
+  time = fieldFrom f 0x11 4 (a .time) es;
+  height = fieldFrom f 0x12 4 (a .height) es;
+}
 unfolding inputFrom fieldFrom noteInput
 fields-from f a [] = refl
 fields-from f a (e ∷ es) = fields-from f (noteInput f a e) es

@@ -20,7 +20,7 @@ ghost use Rattle.format.specs.Locks.{sizedTo, inOf};
 ghost use Rattle.entries.specs.Words.{pairCount};
 ghost use Rattle.lookup.specs.Fits.{entriesOf};
 ghost use Rattle.all_maps.specs.Alls.{ruledBy, Usable};
-ghost use Rattle.all_maps.specs.Places.{fieldAt, sizedAt, sizedIn, notedAt, noteInput, inputFrom, noInput, inputIn};
+ghost use Rattle.all_maps.specs.Places.{fieldAt, sizedAt, sizedIn, notedAt, noteInput, inputIn};
 
 // Where the field of a type stands in a map: start and length of its value.
 pub enum FoundAt {
@@ -136,8 +136,18 @@ fn note_input(file: &[u8], old: InputAt, e: PairEntry) -> InputAt
         txid: noted(txid, keys::is_bare(key, PSBT_IN_PREVIOUS_TXID), 32, e),
         index: noted(index, keys::is_bare(key, PSBT_IN_OUTPUT_INDEX), 4, e),
         sequence: noted(sequence, keys::is_bare(key, PSBT_IN_SEQUENCE), 4, e),
-        time: noted(time, keys::is_bare(key, PSBT_IN_REQUIRED_TIME_LOCKTIME), 4, e),
-        height: noted(height, keys::is_bare(key, PSBT_IN_REQUIRED_HEIGHT_LOCKTIME), 4, e),
+        time: noted(
+            time,
+            keys::is_bare(key, PSBT_IN_REQUIRED_TIME_LOCKTIME),
+            4,
+            e,
+        ),
+        height: noted(
+            height,
+            keys::is_bare(key, PSBT_IN_REQUIRED_HEIGHT_LOCKTIME),
+            4,
+            e,
+        ),
     }
 }
 

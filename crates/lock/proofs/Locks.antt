@@ -15,7 +15,7 @@ use Rattle.format.specs.declared.Ruled.{Ruled}
 use Rattle.format.specs.declared.Ruled.the-variants as R
 use Rattle.format.specs.declared.Lock.{Lock}
 use Rattle.format.specs.declared.Lock.the-variants as L
-use Rattle.all_maps.specs.Alls.{ruledBy, inAt, from, insOf}
+use Rattle.all_maps.specs.Alls.{ruledBy, AllFit, inAt, from, insOf}
 use Rattle.all_maps.proofs.Runs.{from-none, from-one}
 use Rattle.all_maps.proofs.Gathers.{all-are, all-not, all-reported, input-whole}
 use Rattle.lock.specs.declared.Most.{Most}
@@ -105,17 +105,21 @@ module _ (fallback : Maybe) (a : Asks) where
 
 pub ruleset rules = (no-fault, a-fault)
 
+-- where all maps are fit
+pub lock-fit : (f P M : List ℕ) (s : Psbt) → AllFit f P M s → (a : Asks) (r : Lock) → a ≡ walk noAsks 0 (insOf f P M s) → r ≡ decideAsks (s .«fallback_locktime») a
+    → r ≡ lockDecided (view f P M s) s
+unfolding lockDecided lockBy
+lock-fit f P M s k a r ea er =
+    er ∙ ap (decideAsks (s .«fallback_locktime»)) ea ∙ decides (s .«fallback_locktime») (insOf f P M s) ∙ ap (lockBy s) (all-reported f P M s k)
+
 -- the call: y is whether all maps are fit
 module _ (f P M : List ℕ) (s : Psbt) (y : Ruled) (is : y ≡ ruledBy (gather (view f P M s) 0 (mapsReported s))) where
   pub told-refused : (e : PsbtError) → y ≡ R.Refused e → toldLock (L.Refused e) ≡ toldLock (lockDecided (view f P M s) s)
   unfolding lockDecided lockBy
   told-refused e q = ap (λ (x : _). toldLock (lockBy s x)) (all-not f P M s y is e q)
 
-  pub told-decided : y ≡ R.Passed → (a : Asks) (r : Lock) → a ≡ walk noAsks 0 (insOf f P M s) → r ≡ decideAsks (s .«fallback_locktime») a
-      → toldLock r ≡ toldLock (lockDecided (view f P M s) s)
-  unfolding lockDecided lockBy
-  told-decided q a r ea er =
-      ap toldLock (er ∙ ap (decideAsks (s .«fallback_locktime»)) ea ∙ decides (s .«fallback_locktime») (insOf f P M s) ∙ ap (lockBy s) (all-reported f P M s (all-are f P M s y is q)))
+  pub told-decided : (r : Lock) → r ≡ lockDecided (view f P M s) s → toldLock r ≡ toldLock (lockDecided (view f P M s) s)
+  told-decided r e = ap toldLock e
 
 pub ruleset calls = (all-are, told-refused, told-decided)
 

@@ -1,27 +1,29 @@
 -- Laws of what one input asks for, one for each way through the functions that gather it.
-use mathlib.Core.Path.{_≡_, refl, sym, _∙_, ap}
+use mathlib.Core.Path.{_≡_, sym, _∙_, ap}
 use mathlib.Core.Bool.{Bool, true, false}
 use mathlib.Core.List.{List, map}
-use Prim.Native.Nat.{ℕ, _+_, _-_, _^_, _≤_, _<_}
+use Prim.Native.Nat.{ℕ, _+_, _^_, _≤_, _<_}
 use native.Mathlib.Omega.{arith}
 use borrow.Author.Tests.{lt-ltb, le-ltb}
-use lib.ListN.{length, take, drop}
+use lib.ListN.{length, drop}
+use lib.Seq.{take-take}
 use mir.Syntax.{w64}
 use mir.Val.{Fits}
-use Rattle.format.specs.Content.{Found, field}
 use Rattle.format.specs.Entries.{shown}
-use Rattle.format.specs.Locks.{sizedTo}
+use Rattle.format.specs.Numbers.{le}
+use Rattle.format.specs.Lookups.{part}
+use Rattle.format.specs.Locks.{inOf}
 use Rattle.format.specs.declared.MapEntry.{MapEntry}
+use Rattle.format.specs.declared.Looked.the-variants as K
 use Rattle.wire.specs.Leads.{lead}
-use Rattle.wire.proofs.Sizes.{part-rest}
 use Rattle.entries.specs.Words.{mapAt}
 use Rattle.entries.proofs.Tables.{map-count}
 use Rattle.lookup.specs.Fits.{entriesOf}
-use Rattle.all_maps.specs.Alls.{Usable, Whole, inAt}
-use Rattle.all_maps.specs.Places.{sizedIn}
+use Rattle.all_maps.specs.Alls.{Usable, Whole, pairsOf, inAt}
+use Rattle.all_maps.specs.Places.{sizedIn, inputIn}
 use Rattle.all_maps.specs.declared.SizedAt.{SizedAt}
 use Rattle.all_maps.specs.declared.SizedAt.the-variants as S
-use Rattle.all_maps.proofs.Fields.{sized-lies, in-time, in-height}
+use Rattle.all_maps.specs.declared.InputAt.{InputAt}
 use Rattle.lock.specs.declared.Wish.{Wish}
 use Rattle.lock.specs.declared.Wish.the-variants.{Nothing, Wrong, Number}
 use Rattle.lock.specs.declared.Most.{Most}
@@ -33,27 +35,20 @@ use Rattle.lock.specs.declared.Asks.{Asks}
 use Rattle.lock.specs.Asks.{wishOf, isWrong, raised, toppedBy, faultBy, seen, seenIn}
 
 -- what a field asks for, by where it stands
-module _ (f : List ℕ) (o : SizedAt) (y : Found) (k : sizedIn 4 f o ≡ sizedTo 4 y) where
-  wish-by : (x : SizedAt) → o ≡ x → wishOf (sizedIn 4 f x) ≡ wishOf (sizedTo 4 y)
-  wish-by x e = ap wishOf (sym (ap (sizedIn 4 f) e) ∙ k)
-
-  pub wish-missing : o ≡ S.Missing → Nothing ≡ wishOf (sizedTo 4 y)
+module _ (f : List ℕ) (x : SizedAt) where
+  pub wish-missing : x ≡ S.Missing → Nothing ≡ wishOf (sizedIn 4 f x)
   unfolding wishOf sizedIn
-  wish-missing e = wish-by S.Missing e
+  wish-missing e = rw e
 
-  pub wish-wrong : o ≡ S.Misfit → Wrong ≡ wishOf (sizedTo 4 y)
+  pub wish-wrong : x ≡ S.Misfit → Wrong ≡ wishOf (sizedIn 4 f x)
   unfolding wishOf sizedIn
-  wish-wrong e = wish-by S.Misfit e
+  wish-wrong e = rw e
 
-  module _ (s : ℕ) (e : o ≡ S.At s) where
-    pub wish-in : s ≤ length f
-    wish-in = omega (arith, sized-lies 4 f o y s k (omega arith) e)
+  pub wish-number : (s n : ℕ) (v : List ℕ) → x ≡ S.At s → v ≡ part f (K.At s 4) → n ≡ lead 4 v → Number n ≡ wishOf (sizedIn 4 f x)
+  unfolding wishOf sizedIn lead part
+  wish-number s n v e q r = ap Number (r ∙ ap (lead 4) q ∙ ap le (take-take 4 4 (drop s f) (omega arith))) ∙ sym (rw e)
 
-    pub wish-number : (n : ℕ) → n ≡ lead 4 (take (length f - s) (drop s f)) → Number n ≡ wishOf (sizedTo 4 y)
-    unfolding wishOf sizedIn lead
-    wish-number n q = ap Number (q ∙ ap (lead 4) (part-rest s f)) ∙ wish-by (S.At s) e
-
-pub ruleset wishes = (wish-missing, wish-wrong, wish-in, wish-number)
+pub ruleset wishes = (wish-missing, wish-wrong, wish-number)
 
 pub wrong-by : (w x : Wish) (b : Bool) → w ≡ x → b ≡ isWrong x → b ≡ isWrong w
 wrong-by w x b e h = h ∙ sym (ap isWrong e)
@@ -127,10 +122,11 @@ module _ (f P M : List ℕ) (i : ℕ) (w : Whole f P M (1 + i)) where
     pub next-usable : Usable f P m
     next-usable = rw at (w .usable)
 
-    pub see-input : (a r : Asks) (h t : Wish) → h ≡ wishOf (sizedTo 4 (field 0x12 (map (shown f) (entriesOf P m)))) → t ≡ wishOf (sizedTo 4 (field 0x11 (map (shown f) (entriesOf P m))))
+    pub see-input : (x : InputAt) → inputIn f x ≡ inOf (map (shown f) (entriesOf P m)) → (a r : Asks) (h t : Wish) → h ≡ wishOf (sizedIn 4 f (x .height)) → t ≡ wishOf (sizedIn 4 f (x .time))
         → r ≡ seen a i h t → r ≡ seenIn a i (inAt f P M i)
-    unfolding seenIn
-    see-input a r h t eh et q =
-        q ∙ rw (eh ∙ ap wishOf (in-height f P M i m at _ refl), et ∙ ap wishOf (in-time f P M i m at _ refl))
+    unfolding seenIn inputIn inAt pairsOf
+    see-input x e a r h t eh et q =
+        let g : inputIn f x ≡ inAt f P M i = e ∙ ap (λ (y : MapEntry). inOf (map (shown f) (entriesOf P y))) at in
+        q ∙ rw (eh, et) (ap (seenIn a i) g)
 
 pub ruleset sees = (next-fits, next-usable, see-input)

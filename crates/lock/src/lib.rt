@@ -1,24 +1,19 @@
 // The lock time of a transaction, and what decided it. Nothing else looks inside the rule.
 use all_maps::SizedAt;
 use format::Lock;
-use format::MapEntry;
+use format::Looked;
 use format::Maybe;
-use format::PSBT_IN_REQUIRED_HEIGHT_LOCKTIME;
-use format::PSBT_IN_REQUIRED_TIME_LOCKTIME;
 use format::Psbt;
 use format::PsbtError;
 use format::Ruled;
 ghost use mathlib.Core.Path.{_≡_};
-ghost use mathlib.Core.List.{map};
 ghost use Prim.Native.Nat.{_+_};
-ghost use Rattle.format.specs.Content.{field};
-ghost use Rattle.format.specs.Entries.{shown};
 ghost use Rattle.format.specs.Tables.{view};
-ghost use Rattle.format.specs.Locks.{sizedTo, orZero, lockOf};
+ghost use Rattle.format.specs.Locks.{orZero, lockOf};
 ghost use Rattle.format.specs.Transaction.{lockDecided};
 ghost use Rattle.format.specs.Told.{toldLock};
-ghost use Rattle.lookup.specs.Fits.{entriesOf};
-ghost use Rattle.all_maps.specs.Alls.{Usable, Whole, AllFit, inAt, insOf};
+ghost use Rattle.all_maps.specs.Alls.{Whole, AllFit, inAt, insOf};
+ghost use Rattle.all_maps.specs.Places.{sizedIn};
 ghost use Rattle.lock.specs.Asks.{wishOf, isWrong, raised, toppedBy, faultBy, seen, seenIn, noAsks, walk, heightBy, timeBy, decideKinds, decideAsks, lockedBy};
 
 // What an input asks for by one of its fields.
@@ -63,15 +58,17 @@ pub enum LockTime {
 // A lock number below this is a block height, any other a time.
 const THRESHOLD: u32 = 500_000_000;
 
-// What a map asks for by the field of a type.
-fn wish_at(file: &[u8], pairs: &[u32], m: MapEntry, key_type: u8) -> Wish
-    requires { ⌜ Usable (now file) (now pairs) m ⌝ }
-    ensures { λ r. ⌜ r ≡ wishOf (sizedTo 4 (field «key_type» (map (shown (now (file .entry))) (entriesOf (now (pairs .entry)) m)))) ⌝ }
+// What an input asks for by the field that stands at a place.
+fn wish_at(file: &[u8], x: SizedAt) -> Wish
+    ensures { λ r. ⌜ r ≡ wishOf (sizedIn 4 (now (file .entry)) x) ⌝ }
 {
-    match all_maps::sized_field(file, pairs, m, key_type, 4) {
+    match x {
         SizedAt::Missing => Wish::Nothing,
         SizedAt::Misfit => Wish::Wrong,
-        SizedAt::At { start } => Wish::Number(wire::u32_from_le_bytes(&file[start..])),
+        SizedAt::At { start } => {
+            let looked = Looked::At { start, len: 4 };
+            Wish::Number(wire::u32_from_le_bytes(lookup::part_of(file, looked)))
+        }
     }
 }
 
@@ -157,9 +154,10 @@ fn see_input(file: &[u8], pairs: &[u32], maps: &[u32], i: u64, asks: Asks) -> As
     ensures { λ r. ⌜ r ≡ seenIn asks i (inAt (now (file .entry)) (now (pairs .entry)) (now (maps .entry)) i) ⌝ }
 {
     let m = entries::map_entry(maps, (1 + i) as usize);
-    let height = wish_at(file, pairs, m, PSBT_IN_REQUIRED_HEIGHT_LOCKTIME);
-    let time = wish_at(file, pairs, m, PSBT_IN_REQUIRED_TIME_LOCKTIME);
-    see(asks, i, height, time)
+    let at = all_maps::input_at(file, pairs, m);
+    let height = at.height;
+    let time = at.time;
+    see(asks, i, wish_at(file, height), wish_at(file, time))
 }
 
 // What all inputs ask for.
@@ -242,16 +240,22 @@ fn decide(fallback: Maybe, asks: Asks) -> Lock
     }
 }
 
+// What decides the lock, where all maps are fit.
+pub fn lock_in(file: &[u8], pairs: &[u32], maps: &[u32], psbt: Psbt) -> Lock
+    requires { ⌜ AllFit (now file) (now pairs) (now maps) psbt ⌝ }
+    ensures { λ r. ⌜ r ≡ lockDecided (view (now (file .entry)) (now (pairs .entry)) (now (maps .entry)) psbt) psbt ⌝ }
+{
+    let fallback = psbt.fallback_locktime;
+    decide(fallback, all_asks(file, pairs, maps, psbt))
+}
+
 // What decides the lock: a map that is unfit refuses first.
 pub fn lock_decided(file: &[u8], pairs: &[u32], maps: &[u32], psbt: Psbt) -> Lock
     ensures { λ r. ⌜ toldLock r ≡ toldLock (lockDecided (view (now (file .entry)) (now (pairs .entry)) (now (maps .entry)) psbt) psbt) ⌝ }
 {
     match all_maps::all_fit(file, pairs, maps, psbt) {
         Ruled::Refused(e) => Lock::Refused(e),
-        Ruled::Passed => {
-            let fallback = psbt.fallback_locktime;
-            decide(fallback, all_asks(file, pairs, maps, psbt))
-        }
+        Ruled::Passed => lock_in(file, pairs, maps, psbt),
     }
 }
 

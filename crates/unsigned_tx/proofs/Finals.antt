@@ -19,7 +19,7 @@ use Rattle.format.specs.Tables.{view, gather, mapsReported}
 use Rattle.format.specs.Locks.{In, inOf, lockOf, decide}
 use Rattle.format.specs.Scripts.{Out, outOf, scriptEntry, Reported, reports}
 use Rattle.format.specs.Transaction.{Tx, refuses, writes, entryFits, scriptsFit, tableFits, setSoFar, txWith, txBy, transaction, txReported, TxOut, txOut, written, unsignedTx, lockBy, lockDecided}
-use Rattle.format.specs.Told.{toldLeft, toldTx, toldTxOut, toldLock}
+use Rattle.format.specs.Told.{toldLeft, toldTx, toldTxOut}
 use Rattle.format.specs.declared.PsbtError.{PsbtError}
 use Rattle.format.specs.declared.PsbtError.the-variants.{BadValue, BadIndex, NoRoom}
 use Rattle.format.specs.declared.MapEntry.{MapEntry}
@@ -31,7 +31,6 @@ use Rattle.format.specs.declared.Ruled.the-variants as R
 use Rattle.format.specs.declared.UnsignedTx.{UnsignedTx}
 use Rattle.format.specs.declared.UnsignedTx.the-variants as U
 use Rattle.format.proofs.Numbers.{All}
-use Rattle.format.proofs.Told.{lock-one}
 use Rattle.entries.specs.Words.{pairCount, mapAt}
 use Rattle.lookup.specs.Fits.{entriesOf}
 use Rattle.writer.specs.Writes.{wrote, sizeLength}
@@ -311,10 +310,10 @@ module _ (f P M : List ℕ) (s : Psbt) (t : State) (T : List ℕ) (k : AllFit f 
   unfolding txReported written
   call-table h = sym (by-maps ∙ rw (sym eb ∙ h))
 
-  module _ (h : b ≡ true) (l : Lock) (el : toldLock l ≡ toldLock (lockDecided (view f P M s) s)) (r : LockTime) (er : lockedBy r ≡ lockOf l) where
+  module _ (h : b ≡ true) (l : Lock) (el : l ≡ lockDecided (view f P M s) s) (r : LockTime) (er : lockedBy r ≡ lockOf l) where
     decided : lockOf (decide (s .«fallback_locktime») (insOf f P M s)) ≡ lockedBy r
     unfolding lockDecided lockBy
-    decided = sym (er ∙ ap lockOf (lock-one l _ el ∙ ap (lockBy s) (sym (all-reported f P M s k))))
+    decided = sym (er ∙ ap lockOf (el ∙ ap (lockBy s) (sym (all-reported f P M s k))))
 
     by-lock : unsignedTx (view f P M s) s t T B ≡ written t B (txBy s (insOf f P M s) (outsOf f P M s) (setSoFar t T) (lockedBy r))
     unfolding txReported transaction

@@ -9,10 +9,9 @@ use mir.Syntax.{w64}
 use mir.Val.{Fits}
 use Rattle.format.specs.Tests.{every}
 use Rattle.format.specs.Numbers.{bytesOf}
-use Rattle.format.specs.Content.{field}
 use Rattle.format.specs.Entries.{shown}
 use Rattle.format.specs.Lookups.{part}
-use Rattle.format.specs.Locks.{Sized, is, sizedTo, In, inOf}
+use Rattle.format.specs.Locks.{In, inOf}
 use Rattle.format.specs.Transaction.{orFinal}
 use Rattle.format.specs.declared.MapEntry.{MapEntry}
 use Rattle.format.specs.declared.Psbt.{Psbt}
@@ -21,9 +20,10 @@ use Rattle.entries.specs.Words.{mapAt}
 use Rattle.entries.proofs.Tables.{map-count}
 use Rattle.lookup.specs.Fits.{entriesOf}
 use Rattle.all_maps.specs.Alls.{Usable, AllFit, pairsOf, inAt, from, insOf}
-use Rattle.all_maps.specs.Places.{sizedIn}
+use Rattle.all_maps.specs.Places.{sizedIn, inputIn}
 use Rattle.all_maps.specs.declared.SizedAt.{SizedAt}
 use Rattle.all_maps.specs.declared.SizedAt.the-variants as S
+use Rattle.all_maps.specs.declared.InputAt.{InputAt}
 use Rattle.all_maps.proofs.Runs.{from-none, from-one}
 use Rattle.all_maps.proofs.Gathers.{input-listed, input-usable}
 use Rattle.writer.specs.Writes.{wrote}
@@ -51,28 +51,37 @@ allowed-in w f S.Missing = refl
 allowed-in w f S.Misfit = refl
 allowed-in w f (S.At s) = refl
 
--- an input that a map shows, by its three fields
-module _ (f P : List ℕ) (m : MapEntry) (x : SizedAt) (ex : sizedIn 32 f x ≡ sizedTo 32 (field 0x0e (map (shown f) (entriesOf P m)))) (a : Bool) (ea : a ≡ thereAt x) where
-  txid-there : isThere ((inIn f P m) .txid) ≡ a
-  unfolding inIn inOf
-  txid-there = ap isThere (sym ex) ∙ there-in 32 f x ∙ sym ea
+-- an input that a map shows, by the places of its fields
+module _ (f P : List ℕ) (m : MapEntry) (x : InputAt) (e : inputIn f x ≡ inOf (map (shown f) (entriesOf P m))) where
+  shown-in : inIn f P m ≡ inputIn f x
+  unfolding inIn
+  shown-in = sym e
 
-  pub ok-no-txid : a ≡ false → false ≡ inputOk (inIn f P m)
-  unfolding inputOk
-  ok-no-txid h = rw (txid-there ∙ h)
+  txid-there : isThere ((inIn f P m) .txid) ≡ thereAt (x .txid)
+  unfolding inputIn
+  txid-there = ap (λ (y : In). isThere (y .txid)) shown-in ∙ there-in 32 f (x .txid)
 
-  module _ (h : a ≡ true) (y : SizedAt) (ey : sizedIn 4 f y ≡ sizedTo 4 (field 0x0f (map (shown f) (entriesOf P m)))) (b : Bool) (eb : b ≡ thereAt y) where
-    index-there : isThere ((inIn f P m) .index) ≡ b
-    unfolding inIn inOf
-    index-there = ap isThere (sym ey) ∙ there-in 4 f y ∙ sym eb
+  index-there : isThere ((inIn f P m) .index) ≡ thereAt (x .index)
+  unfolding inputIn
+  index-there = ap (λ (y : In). isThere (y .index)) shown-in ∙ there-in 4 f (x .index)
 
-    pub ok-no-index : b ≡ false → false ≡ inputOk (inIn f P m)
+  sequence-fits : isThere (orFinal ((inIn f P m) .sequence)) ≡ allowedAt (x .sequence)
+  unfolding inputIn
+  sequence-fits = ap (λ (y : In). isThere (orFinal (y .sequence))) shown-in ∙ allowed-in 4 f (x .sequence)
+
+  module _ (a : Bool) (ea : a ≡ thereAt (x .txid)) where
+    pub ok-no-txid : a ≡ false → false ≡ inputOk (inIn f P m)
     unfolding inputOk
-    ok-no-index k = rw (txid-there ∙ h, index-there ∙ k)
+    ok-no-txid h = rw (txid-there ∙ sym ea ∙ h)
 
-    pub ok-sequence : b ≡ true → (z : SizedAt) → sizedIn 4 f z ≡ sizedTo 4 (field 0x10 (map (shown f) (entriesOf P m))) → (r : Bool) → r ≡ allowedAt z → r ≡ inputOk (inIn f P m)
-    unfolding inputOk inIn inOf
-    ok-sequence k z ez r er = er ∙ sym (allowed-in 4 f z) ∙ ap (λ (v : Sized). isThere (orFinal v)) ez ∙ sym (rw (txid-there ∙ h, index-there ∙ k))
+    module _ (h : a ≡ true) (b : Bool) (eb : b ≡ thereAt (x .index)) where
+      pub ok-no-index : b ≡ false → false ≡ inputOk (inIn f P m)
+      unfolding inputOk
+      ok-no-index k = rw (txid-there ∙ sym ea ∙ h, index-there ∙ sym eb ∙ k)
+
+      pub ok-sequence : b ≡ true → (r : Bool) → r ≡ allowedAt (x .sequence) → r ≡ inputOk (inIn f P m)
+      unfolding inputOk
+      ok-sequence k r er = er ∙ sym (rw (txid-there ∙ sym ea ∙ h, index-there ∙ sym eb ∙ k) sequence-fits)
 
 pub ruleset oks = (ok-no-txid, ok-no-index, ok-sequence)
 
@@ -161,13 +170,11 @@ sequence-misfit f x at B h = sym (ap (λ (y : SizedAt). wrote B at (bytesIn (orF
 pub ruleset sequences-put = (sequence-missing, sequence-there, sequence-misfit)
 
 -- an input written
-pub input-fields : (f P : List ℕ) (m : MapEntry) (x y z : SizedAt)
-    → sizedIn 32 f x ≡ sizedTo 32 (field 0x0e (map (shown f) (entriesOf P m))) → sizedIn 4 f y ≡ sizedTo 4 (field 0x0f (map (shown f) (entriesOf P m)))
-    → sizedIn 4 f z ≡ sizedTo 4 (field 0x10 (map (shown f) (entriesOf P m)))
-    → (at : ℕ) (B B₁ B₂ B₃ B₄ : List ℕ) → B₁ ≡ wrote B at (bytesIn (sizedIn 32 f x)) → B₂ ≡ wrote B₁ (at + 32) (bytesIn (sizedIn 4 f y))
-    → B₃ ≡ wrote B₂ (at + 36) (bytesOf 1 0) → B₄ ≡ wrote B₃ (at + 37) (bytesIn (orFinal (sizedIn 4 f z))) → B₄ ≡ putInput B at (inIn f P m)
-unfolding putInput inIn inOf bytesOf
-input-fields f P m x y z ex ey ez at B B₁ B₂ B₃ B₄ p q r t = t ∙ rw (r, q, p, ex, ey, ez)
+pub input-fields : (f P : List ℕ) (m : MapEntry) (x : InputAt) → inputIn f x ≡ inOf (map (shown f) (entriesOf P m))
+    → (at : ℕ) (B B₁ B₂ B₃ B₄ : List ℕ) → B₁ ≡ wrote B at (bytesIn (sizedIn 32 f (x .txid))) → B₂ ≡ wrote B₁ (at + 32) (bytesIn (sizedIn 4 f (x .index)))
+    → B₃ ≡ wrote B₂ (at + 36) (bytesOf 1 0) → B₄ ≡ wrote B₃ (at + 37) (bytesIn (orFinal (sizedIn 4 f (x .sequence)))) → B₄ ≡ putInput B at (inIn f P m)
+unfolding putInput inIn inputIn bytesOf
+input-fields f P m x e at B B₁ B₂ B₃ B₄ p q r t = t ∙ rw (r, q, p) (ap (putInput B at) e)
 
 pub length-input : (B : List ℕ) (at : ℕ) (x : In) → length (putInput B at x) ≡ length B
 unfolding putInput

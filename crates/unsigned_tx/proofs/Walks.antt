@@ -10,7 +10,7 @@ use lib.ListN.{length, take, drop, length-append}
 use Rattle.format.specs.Tests.{every}
 use Rattle.format.specs.Numbers.{bytesOf, unsigned}
 use Rattle.format.specs.Compact.{shortest}
-use Rattle.format.specs.Content.{Found, absent, found, field}
+use Rattle.format.specs.Content.{Found, absent, found}
 use Rattle.format.specs.Locks.{Sized, missing, misfit, is, In, sizedTo}
 use Rattle.format.specs.Scripts.{Out, scriptEntry}
 use Rattle.format.specs.Transaction.{Tx, refuses, writes, ahead, needs, needsScript, orFinal, scriptOf, inputThen, inputsThen, outputThen, outputsThen, txWith}

@@ -3,9 +3,6 @@ use all_maps::FoundAt;
 use all_maps::SizedAt;
 use format::Looked;
 use format::MapEntry;
-use format::PSBT_IN_OUTPUT_INDEX;
-use format::PSBT_IN_PREVIOUS_TXID;
-use format::PSBT_IN_SEQUENCE;
 use format::PSBT_OUT_AMOUNT;
 use format::PSBT_OUT_SCRIPT;
 use format::Psbt;
@@ -73,11 +70,12 @@ fn input_ok(file: &[u8], pairs: &[u32], m: MapEntry) -> bool
     requires { ⌜ Usable (now file) (now pairs) m ⌝ }
     ensures { λ r. ⌜ r ≡ inputOk (inIn (now (file .entry)) (now (pairs .entry)) m) ⌝ }
 {
-    let txid = all_maps::sized_field(file, pairs, m, PSBT_IN_PREVIOUS_TXID, 32);
+    let at = all_maps::input_at(file, pairs, m);
+    let txid = at.txid;
+    let index = at.index;
+    let sequence = at.sequence;
     if is_there(txid) {
-        let index = all_maps::sized_field(file, pairs, m, PSBT_IN_OUTPUT_INDEX, 4);
         if is_there(index) {
-            let sequence = all_maps::sized_field(file, pairs, m, PSBT_IN_SEQUENCE, 4);
             is_allowed(sequence)
         } else {
             false
@@ -140,9 +138,10 @@ fn put_input(file: &[u8], pairs: &[u32], m: MapEntry, out: &mut [u8], at: usize)
     requires { ⌜ InputRoom (now file) (now pairs) m at (length (now out)) ⌝ }
     ensures { λ _. ⌜ now (out .exit) ≡ putInput (now (out .entry)) at (inIn (now (file .entry)) (now (pairs .entry)) m) ⌝ }
 {
-    let txid = all_maps::sized_field(file, pairs, m, PSBT_IN_PREVIOUS_TXID, 32);
-    let index = all_maps::sized_field(file, pairs, m, PSBT_IN_OUTPUT_INDEX, 4);
-    let sequence = all_maps::sized_field(file, pairs, m, PSBT_IN_SEQUENCE, 4);
+    let places = all_maps::input_at(file, pairs, m);
+    let txid = places.txid;
+    let index = places.index;
+    let sequence = places.sequence;
     let to_index = at + 32;
     let to_script = at + 36;
     let to_sequence = at + 37;
@@ -552,7 +551,7 @@ fn fit_tx(
     ensures { λ r. ⌜ txOut r (now (out .exit)) ≡ unsignedTx (view (now (file .entry)) (now (pairs .entry)) (now (maps .entry)) psbt) psbt state (now (scripts .entry)) (now (out .entry)) ⌝ }
 {
     if table_fits(file, pairs, maps, psbt, state, scripts) {
-        let lock = lock::lock_decided(file, pairs, maps, psbt);
+        let lock = lock::lock_in(file, pairs, maps, psbt);
         match lock::lock_of(lock) {
             LockTime::Refused(e) => UnsignedTx::Refused(e),
             LockTime::Is(n) => locked_tx(file, pairs, maps, psbt, state, scripts, n, out),

@@ -5,7 +5,7 @@ use Rattle.unsigned_tx.proofs.fit_tx.Statement.{statement}
 use Rattle.unsigned_tx.proofs.fit_tx.Tie as tie
 use Rattle.unsigned_tx.proofs.fit_tx.Reads as reads
 use Rattle.unsigned_tx.proofs.fit_tx.Lts as lts
-use Rattle.lock.proofs.lock_decided.Reads as lock-decided-reads
+use Rattle.lock.proofs.lock_in.Reads as lock-in-reads
 use Rattle.lock.proofs.lock_of.Reads as lock-of-reads
 use Rattle.unsigned_tx.proofs.locked_tx.Reads as locked-tx-reads
 use Rattle.unsigned_tx.proofs.table_fits.Reads as table-fits-reads

@@ -5,7 +5,7 @@ use Rattle.unsigned_tx.proofs.put_input.Statement.{statement}
 use Rattle.unsigned_tx.proofs.put_input.Tie as tie
 use Rattle.unsigned_tx.proofs.put_input.Reads as reads
 use Rattle.unsigned_tx.proofs.put_input.Lts as lts
-use Rattle.all_maps.proofs.sized_field.Reads as sized-field-reads
+use Rattle.all_maps.proofs.input_at.Reads as input-at-reads
 use Rattle.unsigned_tx.proofs.put_at.Reads as put-at-reads
 use Rattle.unsigned_tx.proofs.put_sequence.Reads as put-sequence-reads
 use Rattle.writer.proofs.put_le.Reads as put-le-reads
@@ -15,8 +15,6 @@ pub put-input-spec : {M : Type 1} → statement M
 put-input-spec =
     tie.close
     (tie.spec
-    (λ c κs. search (needs, input-fields))
-    (λ c κs. search (needs, input-fields))
     (λ c κs. search (needs, input-fields))
     (λ c. search (needs, input-fields))
     (λ c. search (needs, input-fields))
