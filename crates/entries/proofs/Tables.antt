@@ -31,11 +31,6 @@ room-tested w n t h = by (leb (n * w + w) (length t)) refl
         let k : length t / w < suc n = div-lt-iff-lt-mul h .1 i in
         le-ltb n (length t / w) (omega arith) ∙ sym q
 
--- room that was found, as it is used
-pub room-yes : (w n : ℕ) (t : List ℕ) (r : Bool) → r ≡ hasRoom w n t → r ≡ true → n * w + w ≤ length t
-unfolding hasRoom
-room-yes w n t r e q = leb-true (n * w + w) (length t) (sym e ∙ q)
-
 -- how many entries there are
 pub pair-count : (t : List ℕ) → length t / 4 ≡ pairCount t
 unfolding pairCount pairEntries

@@ -19,11 +19,6 @@ unfolding bytesOf
 length-bytesOf zero n = refl
 length-bytesOf (suc w) n = ap suc (length-bytesOf w (n / 256))
 
-pub bytes-are : (w n : ℕ) → All Byte (bytesOf w n)
-unfolding bytesOf
-bytes-are zero n = tt
-bytes-are (suc w) n = (omega arith, bytes-are w (n / 256))
-
 -- writing and then reading
 pub le-bytesOf : (w n : ℕ) → n < 256 ^ w → le (bytesOf w n) ≡ n
 unfolding le bytesOf

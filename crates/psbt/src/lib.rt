@@ -11,7 +11,7 @@ ghost use Rattle.format.specs.Parse.{out, parsed};
 ghost use Rattle.format.specs.Told.{toldWith, toldParsed, toldParse};
 ghost use Rattle.psbt.specs.Leans.{mapsRead};
 ghost use Rattle.psbt.specs.Steps.{Places, InLimit, stepAt};
-ghost use Rattle.psbt.specs.Walks.{noted, notedCount, notedThere, noteGlobal, noteOutput, note, globalsRule, allThere, versionRule, psbtFrom, flags, seenRule, closeGlobal, closeOutput, close, finish, finishBy, anInput, anOutput, start, afterBy, after, there, atFirst};
+ghost use Rattle.psbt.specs.Walks.{noted, notedCount, notedThere, noteGlobal, noteOutput, note, globalsRule, allThere, versionRule, psbtFrom, flags, closeGlobal, closeOutput, close, finish, start, after, there, atFirst};
 use entries::has_map_room;
 use entries::has_pair_room;
 use entries::write_map;
