@@ -1,1 +1,1 @@
-pub mod Lays
+pub mod Words

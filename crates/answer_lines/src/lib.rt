@@ -1,16 +1,12 @@
-// Lines put into a lent buffer piece by piece, and the line that answers a parse.
-ghost use mathlib.Core.Path.{_≡_};
-ghost use Prim.Native.Nat.{_+_, _≤_, _<_, min, max};
-ghost use lib.ListN.{length};
+// Pieces of lines behind a space, and the line that answers a parse.
+ghost use Prim.Native.Nat.{_<_};
 ghost use Rattle.io.specs.Counts.{Counts};
-ghost use Rattle.answer_lines.specs.Lines.{spot, lay, Spelt};
 use format::Maybe;
 use format::Parsed;
 use format::Psbt;
 use format::PsbtError;
-use std::num::wrapping_sub_u64;
-use writer::bits_of;
-use writer::put_bytes;
+use text::put;
+use text::put_decimal;
 
 // How many words a caller lends for each entry.
 const PAIR_WORDS: usize = 4;
@@ -20,42 +16,10 @@ const MAP_WORDS: usize = 2;
 // What every word of both tables is before a parse: no entry of a file within the limit has it.
 const UNUSED: u32 = 0xa5a5_a5a5;
 
-// Puts `text` at `at` and answers the place behind it. Where there is no room for it, nothing is put.
-pub fn put(out: &mut [u8], at: usize, text: &[u8]) -> usize
-    ensures { λ r. ⌜ spot r (now (out .exit)) ≡ lay (spot at (now (out .entry))) (now (text .entry)) ⌝ }
-{
-    if out.len() < at {
-        return at;
-    }
-    if out.len() - at < text.len() {
-        return at;
-    }
-    put_bytes(out, at, text);
-    at + text.len()
-}
-
-// A number in decimal.
-pub fn put_number(out: &mut [u8], at: usize, n: u64) -> usize
-    ensures { λ r. ⌜ Spelt 10 1 n (spot at (now (out .entry))) (spot r (now (out .exit))) ⌝ }
-{
-    let mut digits = [0u8; 20];
-    let k = io::decimal(n, &mut digits);
-    put(out, at, &digits[..k])
-}
-
 // A number behind a space.
 pub fn put_word(out: &mut [u8], at: usize, n: u64) -> usize {
     let to = put(out, at, b" ");
-    put_number(out, to, n)
-}
-
-// The two hexadecimal digits of a byte.
-pub fn put_byte(out: &mut [u8], at: usize, byte: u8) -> usize
-    ensures { λ r. ⌜ Spelt 16 (min (max 2 1) 16) byte (spot at (now (out .entry))) (spot r (now (out .exit))) ⌝ }
-{
-    let mut two = [0u8; 16];
-    let k = io::hex(byte as u64, 2, &mut two);
-    put(out, at, &two[..k])
+    put_decimal(out, to, n)
 }
 
 // Bytes in hexadecimal behind a space, an equals sign where there are none.
@@ -63,19 +27,14 @@ pub fn put_hex(out: &mut [u8], at: usize, bytes: &[u8]) -> usize {
     if bytes.len() == 0 {
         return put(out, at, b" =");
     }
-    let mut to = put(out, at, b" ");
-    let mut i: usize = 0;
-    while i < bytes.len() {
-        to = put_byte(out, to, bytes[i]);
-        i = i + 1;
-    }
-    to
+    let to = put(out, at, b" ");
+    text::put_hex(out, to, bytes)
 }
 
 // A refusal's number behind a space and a mark.
 pub fn put_refusal(out: &mut [u8], at: usize, error: PsbtError) -> usize {
     let to = put(out, at, b" !");
-    put_number(out, to, error.number() as u64)
+    put_decimal(out, to, error.number() as u64)
 }
 
 // A whole line that says only that the file is refused.
@@ -87,12 +46,8 @@ pub fn put_refused(out: &mut [u8], at: usize, error: PsbtError) -> usize {
 
 // A number that may be negative, behind a space.
 fn put_signed(out: &mut [u8], at: usize, n: i32) -> usize {
-    let bits = bits_of(n);
-    if n < 0 {
-        let to = put(out, at, b" -");
-        return put_number(out, to, wrapping_sub_u64(0x1_0000_0000, bits));
-    }
-    put_word(out, at, bits)
+    let to = put(out, at, b" ");
+    text::put_signed(out, to, n)
 }
 
 // A number that may be absent, behind a space.

@@ -2,9 +2,9 @@
 ghost use mathlib.Core.Path.{_≡_};
 ghost use lib.ListN.{length};
 use answer_lines::answer_parse;
-use answer_lines::put;
 use lookup_lines::answer_lookups;
 use table_lines::answer_tables;
+use text::put;
 use tx_lines::answer_tx;
 use wire::u32_from_le_bytes;
 

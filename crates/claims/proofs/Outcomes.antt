@@ -18,11 +18,8 @@ use Rattle.format.specs.declared.Looked.{Looked}
 use Rattle.format.specs.declared.Nth.{Nth}
 use Rattle.format.specs.declared.Numbered.{Numbered}
 use Rattle.format.specs.declared.OutputScript.{OutputScript}
-use Rattle.format.specs.declared.Parsed.{Parsed}
 use Rattle.format.specs.declared.Psbt.{Psbt}
-use Rattle.format.specs.declared.ScriptsSet.{ScriptsSet}
 use Rattle.format.specs.declared.State.{State}
-use Rattle.format.specs.declared.UnsignedTx.{UnsignedTx}
 use Rattle.format.specs.declared.Utxo.{Utxo}
 use Rattle.format.proofs.Told.{looked-one, numbered-one, listing-one, nth-one, utxo-one, lock-one, script-one, parse-out-one, set-out-one, tx-out-one}
 use Rattle.claims.specs.Outcomes.{One, OneWith, OneWithBoth}

@@ -9,10 +9,10 @@ use native.Mathlib.Omega.{arith}
 use borrow.Author.Tests.{lt-ltb, le-ltb, leb-true, leb-false}
 use lib.Dec.{ltb, leb}
 use lib.ListN.{length, getD, drop, set, length-set}
-use lib.Seq.{length-sets, drop-cons}
+use lib.Seq.{drop-cons}
 use mir.Syntax.{w32, w64}
 use mir.Val.{Fits}
-use Rattle.format.specs.Entries.{pairWords, mapWords, hasRoom, pairEntryWords, mapEntryWords, putPair, putMap, pairEntries, mapEntries}
+use Rattle.format.specs.Entries.{hasRoom, pairEntryWords, mapEntryWords, putPair, putMap, pairEntries, mapEntries}
 use Rattle.format.specs.declared.PairEntry.{PairEntry}
 use Rattle.format.specs.declared.MapEntry.{MapEntry}
 use Rattle.entries.specs.Words.{pairCount, mapCount, noPair, noMap, pairAt, mapAt, pairFrom, mapFrom}
@@ -30,20 +30,6 @@ room-tested w n t h = by (leb (n * w + w) (length t)) refl
         let i : length t < suc n * w = omega (arith, leb-false (n * w + w) (length t) q) in
         let k : length t / w < suc n = div-lt-iff-lt-mul h .1 i in
         le-ltb n (length t / w) (omega arith) ∙ sym q
-
--- room that was found, as it is used
-pub room-yes : (w n : ℕ) (t : List ℕ) (r : Bool) → r ≡ hasRoom w n t → r ≡ true → n * w + w ≤ length t
-unfolding hasRoom
-room-yes w n t r e q = leb-true (n * w + w) (length t) (sym e ∙ q)
-
--- writing an entry keeps a table's length
-pub length-putPair : (t : List ℕ) (n : ℕ) (e : PairEntry) → length (putPair t n e) ≡ length t
-unfolding putPair
-length-putPair t n e = length-sets t (n * pairWords) (pairEntryWords e)
-
-pub length-putMap : (t : List ℕ) (n : ℕ) (e : MapEntry) → length (putMap t n e) ≡ length t
-unfolding putMap
-length-putMap t n e = length-sets t (n * mapWords) (mapEntryWords e)
 
 -- how many entries there are
 pub pair-count : (t : List ℕ) → length t / 4 ≡ pairCount t

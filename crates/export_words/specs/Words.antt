@@ -1,7 +1,7 @@
 -- Answers as words in a lent slice, for callers from other languages.
 use Prim.Native.Nat.{ℕ, _^_, _-_, _%_}
-use mathlib.Core.Bool.{Bool, not}
-use mathlib.Core.List.{List, [], _∷_, _++_, map}
+use mathlib.Core.Bool.{not}
+use mathlib.Core.List.{List, _∷_, _++_, map}
 use lib.Dec.{leb, eqb}
 use lib.ListN.{length, take, drop, replicate, getD}
 use Rattle.format.specs.Tests.{pick}

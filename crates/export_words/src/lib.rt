@@ -22,10 +22,10 @@ ghost use Rattle.export_words.specs.Words.{word as Words·word, answered
 ghost use Rattle.writer.specs.Writes.{wrote};
 
 // How many words an answer takes.
-const ANSWER: usize = 8;
+pub const ANSWER: usize = 8;
 
 // The number of a slice that is too short for an answer.
-const NO_ROOM: u64 = 25;
+pub const NO_ROOM: u64 = 25;
 
 // The word of a value that is absent.
 const NO_VALUE: u64 = 18446744073709551615;

@@ -1,4 +1,6 @@
 // The library for programs in C and Rust: every public call in numbers and slices (`include/fastpsbt.h`).
+use export_words::ANSWER;
+use export_words::NO_ROOM;
 use export_words::psbt_of;
 use export_words::put_listing;
 use export_words::put_lock;
@@ -20,11 +22,6 @@ ghost use Rattle.format.specs.Tables.{held, heldInput, heldOutput, view};
 ghost use Rattle.format.specs.Told.{toldListing, toldLock, toldLooked, toldNth, toldNumbered, toldParse, toldScript, toldSetOut, toldTxOut, toldUtxo};
 ghost use Rattle.format.specs.Transaction.{lockDecided, outputScript, unsignedTx};
 ghost use Rattle.export_words.specs.Words.{exported, asked, askedIn, leaves, leavesBoth, outExport, parseExport};
-
-// How many words an answer takes, and the number of a slice that is shorter.
-const ANSWER: usize = 8;
-
-const NO_ROOM: u64 = 25;
 
 // Parses a file: four words for each pair go into `pairs`, two for each map into `maps`. It reports the global fields and how many entries
 // are used; a refusal too reports these, and leaves the entries of pairs accepted and maps ended before it.

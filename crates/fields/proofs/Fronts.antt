@@ -1,15 +1,12 @@
 -- A pair's field rule is that of its lengths and its value's first nine bytes: no compact size is longer.
 use mathlib.Core.Path.{_≡_, refl, sym, _∙_, ap}
-use mathlib.Core.List.{List, [], _∷_}
+use mathlib.Core.List.{List}
 use mathlib.Core.Bool.{Bool, true, false}
-use Prim.Native.Nat.{ℕ, _≤_}
-use native.Mathlib.Omega.{arith}
-use borrow.Author.Tests.{leb-true, leb-false, le-leb, lt-leb, eq-eqb, ne-eqb}
-use lib.Dec.{ltb, leb, eqb}
-use lib.ListN.{length, take, length-take}
-use lib.Seq.{take-take}
+use Prim.Native.Nat.{ℕ}
+use borrow.Author.Tests.{eq-eqb, ne-eqb}
+use lib.ListN.{length, take}
 use Rattle.format.specs.Tests.{pick}
-use Rattle.format.specs.Compact.{long, sizeBy, size, count, countBy}
+use Rattle.format.specs.Compact.{size, count, countBy}
 use Rattle.format.specs.Keys.{typeOf, dataOf}
 use Rattle.format.specs.Rules.{bareRule, rule, sizes, countRule, andThen}
 use Rattle.format.specs.declared.PsbtError.{PsbtError}
@@ -18,25 +15,9 @@ use Rattle.format.specs.declared.Size.{Size}
 use Rattle.format.specs.declared.Size.the-variants.{Bad, Read}
 use Rattle.format.specs.declared.Ruled.{Ruled}
 use Rattle.format.specs.declared.Ruled.the-variants.{Passed, Refused}
-use Rattle.format.proofs.Tests.{pick-by, pick-two, pick-yes, pick-no}
+use Rattle.wire.proofs.Sizes.{size-front}
+use Rattle.format.proofs.Tests.{pick-yes, pick-no}
 use Rattle.fields.specs.Fronts.{isCount, bareRuleBy, isBare, ruleBy}
-
--- a number of w bytes is read off any n of them that are enough
-long-front : (w n : ℕ) (r : List ℕ) → w ≤ n → long w (take n r) ≡ long w r
-unfolding long
-long-front w n r h =
-    pick-by (λ (o : Size). long w (take n r) ≡ o) (leb w (length r)) _ _
-    (λ q. rw (le-leb w (length (take n r)) (omega (arith, length-take n r, leb-true w (length r) q)), take-take w n r h))
-    (λ q. rw (lt-leb w (length (take n r)) (omega (arith, length-take n r, leb-false w (length r) q))))
-
--- and so is a compact size, off the first nine
-pub size-front : (v : List ℕ) → size (take 9 v) ≡ size v
-unfolding size sizeBy
-size-front [] = refl
-size-front (b ∷ r) =
-    pick-two (λ (x y : Size). x ≡ y) (ltb b 0xfd) _ _ _ _ refl
-    (pick-two (λ (x y : Size). x ≡ y) (eqb b 0xfd) _ _ _ _ (long-front 2 8 r (omega arith))
-    (pick-two (λ (x y : Size). x ≡ y) (eqb b 0xfe) _ _ _ _ (long-front 4 8 r (omega arith)) (long-front 8 8 r (omega arith))))
 
 -- the whole value is a front
 pub rule-whole : (k : ℕ) (key v : List ℕ) → rule k key v ≡ ruleBy k (typeOf key) (length (dataOf key)) (length v) v

@@ -1,14 +1,12 @@
 -- Laws of compact sizes: only the bytes used matter, they spell the number by themselves, and the shortest spelling is read back.
-use mathlib.Core.Path.{_≡_, refl, sym, _∙_, ap}
+use mathlib.Core.Path.{_≡_, _∙_}
 use mathlib.Core.List.{List, [], _∷_, _++_}
-use mathlib.Core.Bool.{Bool, true, false}
-use Prim.Native.Nat.{ℕ, zero, suc, _+_, _^_, _≤_, _<_}
+use Prim.Native.Nat.{ℕ, suc, _+_, _^_, _≤_, _<_}
 use native.Mathlib.Omega.{arith}
-use borrow.Author.Tests.{ltb-true, ltb-false, leb-true, le-leb, lt-ltb}
+use borrow.Author.Tests.{ltb-true, leb-true, le-leb}
 use lib.Dec.{leb, ltb, eqb}
 use lib.ListN.{length, take, length-append}
-use lib.Seq.{take-all, length-take-le, take-append-le, take-append-seam}
-use Rattle.format.specs.Tests.{pick}
+use lib.Seq.{take-all, length-take-le, take-append-le}
 use Rattle.format.specs.Numbers.{le, bytesOf}
 use Rattle.format.specs.Compact.{long, sizeBy, size, shortest}
 use Rattle.format.specs.declared.PsbtError.the-variants.{UnexpectedEof}

@@ -1,25 +1,15 @@
 -- The order of keys is a strict total order.
-use mathlib.Core.Path.{_≡_, refl, sym, _∙_, ap, subst}
+use mathlib.Core.Path.{_≡_, refl, sym, _∙_}
 use mathlib.Core.List.{List, [], _∷_}
-use mathlib.Core.Bool.{Bool, true, false}
-use Prim.Native.Nat.{ℕ, zero, suc, _+_, _≤_, _<_}
+use mathlib.Core.Bool.{true}
+use Prim.Native.Nat.{ℕ, _<_}
 use native.Mathlib.Omega.{arith}
 use borrow.Author.Tests.{ltb-true, ltb-false, lt-ltb, le-ltb}
 use lib.Dec.{ltb}
-use Rattle.format.specs.Tests.{pick}
-use Rattle.format.specs.Keys.{typeOf, dataOf, keyOf, order, isBelow, isSame, below, same}
+use Rattle.format.specs.Keys.{order, isBelow, isSame, below, same}
 use Rattle.format.specs.declared.Order.{Order}
 use Rattle.format.specs.declared.Order.the-variants.{Below, Same, Above}
-use Rattle.format.proofs.Tests.{pick-by, never-true, no-by}
-
--- a key is its type and its data
-pub type-of : (t : ℕ) (d : List ℕ) → typeOf (keyOf t d) ≡ t
-unfolding typeOf keyOf
-type-of t d = refl
-
-pub data-of : (t : ℕ) (d : List ℕ) → dataOf (keyOf t d) ≡ d
-unfolding dataOf keyOf
-data-of t d = refl
+use Rattle.format.proofs.Tests.{pick-by, never-true}
 
 -- each key is the same as itself
 pub order-self : (a : List ℕ) → order a a ≡ Same
@@ -109,7 +99,3 @@ below-is a b e = by (order a b) e
     by Below h = refl
     by Same h = never-true h
     by Above h = never-true h
-
-pub below-not : (a b : List ℕ) → order a b ≡ Below → same b a ≡ false
-below-not a b o = no-by (same b a) (λ q. let e : order a a ≡ Below = subst (λ (x : List ℕ). order a x ≡ Below) (same-is b a q) o in
-    let s : order a a ≡ Same = order-self a in let z : _≡_ {A = ℕ} 0 1 = cc in omega arith)

@@ -5,3 +5,5 @@ pub mod Compact
 pub mod Keys
 pub mod Wrong
 pub mod Told
+pub mod Entries
+pub mod Maybes

@@ -1,8 +1,7 @@
 -- Little-endian reading and writing undo each other, at every width.
-use mathlib.Core.Path.{_≡_, refl, sym, _∙_, ap, ap₂}
+use mathlib.Core.Path.{_≡_, refl, ap}
 use mathlib.Core.List.{List, [], _∷_}
-use Prim.Native.Nat.{ℕ, zero, suc, _+_, _*_, _/_, _%_, _^_, _≤_, _<_}
-use native.Mathlib.Nat.{div-lt-iff-lt-mul, div-add-mod'}
+use Prim.Native.Nat.{ℕ, zero, suc, _+_, _*_, _/_, _%_, _^_, _<_}
 use native.Mathlib.Omega.{arith}
 use lib.ListN.{length}
 use Rattle.format.specs.Numbers.{le, bytesOf}
@@ -19,11 +18,6 @@ pub length-bytesOf : (w n : ℕ) → length (bytesOf w n) ≡ w
 unfolding bytesOf
 length-bytesOf zero n = refl
 length-bytesOf (suc w) n = ap suc (length-bytesOf w (n / 256))
-
-pub bytes-are : (w n : ℕ) → All Byte (bytesOf w n)
-unfolding bytesOf
-bytes-are zero n = tt
-bytes-are (suc w) n = (omega arith, bytes-are w (n / 256))
 
 -- writing and then reading
 pub le-bytesOf : (w n : ℕ) → n < 256 ^ w → le (bytesOf w n) ≡ n

@@ -11,7 +11,7 @@ use Rattle.format.specs.Tests.{pick}
 use Rattle.format.specs.Parse.{ParseOut, out}
 use Rattle.format.specs.Scripts.{SetOut, setOut}
 use Rattle.format.specs.Transaction.{TxOut, txOut}
-use Rattle.format.specs.Told.{Value, none, int, flag, Told, told, nat, maybeValue, toldParsed, toldLooked, toldNumbered, toldListing, toldNth, toldUtxo, toldLock, toldSet, toldTx, toldScript, ToldParse, toldWith, toldParse, ToldOut, toldLeft, toldSetOut, toldTxOut}
+use Rattle.format.specs.Told.{Value, none, int, flag, Told, told, maybeValue, toldParsed, toldLooked, toldNumbered, toldListing, toldNth, toldUtxo, toldLock, toldSet, toldTx, toldScript, toldParse, toldSetOut, toldTxOut}
 use Rattle.format.specs.declared.PsbtError.{PsbtError}
 use Rattle.format.specs.declared.PsbtError.the-variants.{InvalidMagic, UnexpectedEof, InvalidCompactSize, MapTerminatorMissing, DuplicateKey, UnsortedKeys, BadValue, MissingCounts, MissingOutputIndex, MissingRedeemScript, MissingWitnessScript, CountsTooLarge, NotAllowed, OutOfRange, UnknownOutputType, Unsupported, MissingOutputScript, InvalidSilentPayment, InvalidOutputScripts, InvalidSighashType, TooLong, PairsFull, MapsFull, BadIndex, NoRoom}
 use Rattle.format.specs.declared.Ruled.{Ruled}
@@ -77,10 +77,6 @@ error-of PairsFull = refl
 error-of MapsFull = refl
 error-of BadIndex = refl
 error-of NoRoom = refl
-
--- a refusal is known by its number
-pub number-one : (a b : PsbtError) → numberOf a ≡ numberOf b → a ≡ b
-number-one a b h = let e = sym (error-of a) ∙ ap errorOf h ∙ error-of b in cc
 
 -- a value read back
 intOf : Value → ℤ

@@ -5,9 +5,9 @@ use mathlib.Core.Bool.{true, false}
 use Prim.Native.Nat.{ℕ}
 use native.Mathlib.Omega.{arith}
 use lib.ListN.{replicate, drop}
-use Rattle.format.specs.Parse.{ParseOut, out, parsed}
+use Rattle.format.specs.Parse.{out, parsed}
 use Rattle.format.specs.Tables.{view}
-use Rattle.format.specs.Transaction.{TxOut, txOut, unsignedTx}
+use Rattle.format.specs.Transaction.{txOut, unsignedTx}
 use Rattle.format.specs.Examples.{computes, fileE, fileF, psbtE, psbtF, pairsE, pairsF, mapsF, fresh, txF}
 use Rattle.format.specs.declared.PsbtError.{PsbtError}
 use Rattle.format.specs.declared.Psbt.{Psbt}

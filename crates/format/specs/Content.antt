@@ -2,7 +2,6 @@
 use Prim.Native.Nat.{ℕ, _%_}
 use mathlib.Core.Bool.{Bool, true, false, not, _&&_, _||_}
 use mathlib.Core.List.{List, [], _∷_, _++_}
-use lib.ListN.{length}
 use lib.Dec.{eqb}
 use Rattle.format.specs.Tests.{pick}
 use Rattle.format.specs.Numbers.{le, signed}

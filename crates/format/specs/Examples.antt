@@ -3,15 +3,15 @@ use Prim.Native.Nat.{ℕ, _+_}
 use mathlib.Core.Path.{_≡_, refl}
 use mathlib.Core.Bool.{Bool, true, false, _&&_}
 use mathlib.Core.List.{List, [], _∷_, _++_, map}
-use lib.ListN.{length, take, replicate}
-use lib.IntN.{ℤ, pos, negsuc}
+use lib.ListN.{take, replicate}
+use lib.IntN.{pos, negsuc}
 use Rattle.format.specs.Refusals.{numberOf}
 use Rattle.format.specs.Tests.{only, every}
 use Rattle.format.specs.Numbers.{le, bytesOf, signed, unsigned}
 use Rattle.format.specs.Compact.{long, sizeBy, size, shortest, countBy, count}
 use Rattle.format.specs.Keys.{typeOf, dataOf, keyOf, order, isBelow, isSame, below, same}
 use Rattle.format.specs.Rules.{span, within, listedTypes, sizedTypes, valueFits, isRow, rowRule, sizesIn, sizes, countRule, bareRule, andThen, rule}
-use Rattle.format.specs.Content.{magic, mapsOf, find, field, present, number, maybe, sizeValue, counted, psbtOf, globalRule, modifiable, outputBy, outputRule, outputsRule}
+use Rattle.format.specs.Content.{magic, find, field, present, number, maybe, sizeValue, counted, psbtOf, globalRule, modifiable, outputBy, outputRule, outputsRule}
 use Rattle.format.specs.Reading.{limit, ruled, valued, risen, keyed, itemBy, item, front, turn, items, mapped, pairEvents, mapEvents, mapsEvents, unless, lastly, globalThen, events}
 use Rattle.format.specs.Entries.{hasRoom, pairEntryWords, mapEntryWords, putPair, putMap, pairEntries, mapEntries, entryOf, width, keyIn, valueIn, shown}
 use Rattle.format.specs.Parse.{ParseOut, out, cut, parsed}
@@ -19,12 +19,11 @@ use Rattle.format.specs.Tables.{inFile, fit, fitted, heldBy, mapsReporte
 use Rattle.format.specs.Locks.{sizedTo, inOf, askedBy, along, heights, times, isMisfit, misfitBy, misfits, greatest, heightLock, timeLock, orZero, decideBy, wellFormed, decide, lockOf}
 use Rattle.format.specs.Scripts.{outOf, reportedBy, reported, taproot}
 use Rattle.format.specs.Transaction.{TxOut, txOut, entryFits, scriptsFit, tableFits, setSoFar, setScript, scriptOf, ahead, needs, orFinal, inputThen, inputsThen, needsScript, outputThen, outputsThen, txWith, txBy, transaction, txReported, written, unsignedTx}
-use Rattle.format.specs.declared.PsbtError.the-variants.{InvalidMagic, UnexpectedEof, InvalidCompactSize, DuplicateKey, UnsortedKeys, BadValue, MissingCounts, NotAllowed, MissingOutputScript, InvalidSilentPayment, PairsFull, MapsFull}
+use Rattle.format.specs.declared.PsbtError.the-variants.{UnsortedKeys, MissingCounts, MissingOutputScript, PairsFull}
 use Rattle.format.specs.declared.Maybe.the-variants.{Absent, Present}
 use Rattle.format.specs.declared.Psbt.{Psbt}
 use Rattle.format.specs.declared.SizedType.{SizedType}
 use Rattle.format.specs.declared.State.{State}
-use Rattle.format.specs.declared.Parsed.{Parsed}
 use Rattle.format.specs.declared.Parsed.the-variants as R
 use Rattle.format.specs.declared.UnsignedTx.the-variants as U
 

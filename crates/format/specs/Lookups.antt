@@ -10,7 +10,6 @@ use Rattle.format.specs.Keys.{typeOf, keyOf, below, same}
 use Rattle.format.specs.Content.{Pair}
 use Rattle.format.specs.Entries.{keyIn, valueIn, shown}
 use Rattle.format.specs.Tables.{Held, no, holds}
-use Rattle.format.specs.declared.PsbtError.{PsbtError}
 use Rattle.format.specs.declared.PsbtError.the-variants.{BadValue, OutOfRange}
 use Rattle.format.specs.declared.PairEntry.{PairEntry}
 use Rattle.format.specs.declared.Looked.{Looked}

@@ -3,7 +3,7 @@ use Prim.Native.Nat.{ℕ, _+_, _-_}
 use mathlib.Core.List.{List}
 use lib.ListN.{length}
 use Rattle.format.specs.Tests.{pick}
-use Rattle.format.specs.Content.{Content, magic, psbtOf}
+use Rattle.format.specs.Content.{magic, psbtOf}
 use Rattle.format.specs.Reading.{Reading, done, refusal, begins, pair, ended, events}
 use Rattle.format.specs.Entries.{pairWords, mapWords, hasRoom, putPair, putMap, entryOf, width}
 use Rattle.format.specs.declared.PsbtError.the-variants.{PairsFull, MapsFull}

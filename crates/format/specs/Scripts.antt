@@ -1,13 +1,13 @@
 -- Scripts that the signer sets for outputs without one.
 use Prim.Native.Nat.{ℕ, _+_, _*_}
-use mathlib.Core.Bool.{Bool, true, false, not, _&&_, _||_}
+use mathlib.Core.Bool.{Bool, true, not, _&&_, _||_}
 use mathlib.Core.List.{List, [], _∷_, _++_, map}
 use lib.ListN.{length, take, drop, replicate}
 use lib.Dec.{leb, ltb, eqb}
 use Rattle.format.specs.Tests.{pick, only, every}
 use Rattle.format.specs.Keys.{same}
-use Rattle.format.specs.Content.{Pair, Found, absent, found, present, field}
-use Rattle.format.specs.Tables.{View, Gathered, unfit, gathered, gather, mapsReported, view}
+use Rattle.format.specs.Content.{Pair, Found, present, field}
+use Rattle.format.specs.Tables.{View, Gathered, unfit, gathered, gather, mapsReported}
 use Rattle.format.specs.Locks.{Sized, sizedTo, In, inOf}
 use Rattle.format.specs.declared.PsbtError.{PsbtError}
 use Rattle.format.specs.declared.PsbtError.the-variants.{InvalidOutputScripts, NoRoom}

@@ -1,6 +1,6 @@
 -- What the paper says of each case of an answer: its number, 0 where nothing is refused, and its values.
 use Prim.Native.Nat.{ℕ}
-use mathlib.Core.Bool.{Bool, true, false}
+use mathlib.Core.Bool.{Bool}
 use mathlib.Core.List.{List, [], _∷_}
 use lib.IntN.{ℤ, pos}
 use Rattle.format.specs.Refusals.{numberOf}
@@ -23,7 +23,6 @@ use Rattle.format.specs.declared.Utxo.{Utxo}
 use Rattle.format.specs.declared.Utxo.the-variants as U
 use Rattle.format.specs.declared.Lock.{Lock}
 use Rattle.format.specs.declared.Lock.the-variants as D
-use Rattle.format.specs.declared.State.{State}
 use Rattle.format.specs.declared.ScriptsSet.{ScriptsSet}
 use Rattle.format.specs.declared.ScriptsSet.the-variants as S
 use Rattle.format.specs.declared.UnsignedTx.{UnsignedTx}

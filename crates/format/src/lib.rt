@@ -1,6 +1,7 @@
 // What every other crate speaks of: the Rust's constants, the refusals, and the plain answers.
 ghost use mathlib.Core.Path.{_≡_};
 ghost use Rattle.format.specs.Refusals.{numberOf};
+ghost use Rattle.format.specs.Locks.{orZero};
 
 // The longest file that is read, in bytes.
 pub const LIMIT: usize = 1_048_576;
@@ -223,6 +224,18 @@ pub struct SizedType {
 pub enum Maybe {
     Absent,
     Present(u32),
+}
+
+impl Maybe {
+    // The number, 0 where it is absent.
+    pub fn or_zero(self) -> u32
+        ensures { λ r. ⌜ r ≡ orZero self ⌝ }
+    {
+        match self {
+            Maybe::Absent => 0,
+            Maybe::Present(n) => n,
+        }
+    }
 }
 
 // What parse reports of the global map.

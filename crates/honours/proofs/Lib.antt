@@ -1,4 +1,3 @@
-pub mod Walks
 pub mod Decisions
 pub mod Ends
 pub mod Honours

@@ -8,29 +8,19 @@ use Rattle.format.specs.Content.{Pair, Content, mapsOf, psbtOf, found, find}
 use Rattle.format.specs.Reading.{accepted, reading}
 use Rattle.format.specs.Entries.{keyIn, valueIn, shown}
 use Rattle.format.specs.Tables.{Held, no, holds, held, viewOf, view}
-use Rattle.format.specs.Lookups.{place, anyLength, lengthFits, ofLength, asked, look, part}
+use Rattle.format.specs.Lookups.{place, anyLength, lengthFits, ofLength, asked, look}
 use Rattle.format.specs.declared.PairEntry.{PairEntry}
 use Rattle.format.specs.declared.Looked.{Looked}
 use Rattle.format.specs.declared.Looked.the-variants.{Refused, Absent, At}
 use Rattle.format.proofs.Tests.{pick-ap}
 use Rattle.laws.specs.Shown.{bare, viewBy, pairTable, mapTable}
-use Rattle.laws.specs.Found.{foundAt, valueOf, findIn}
+use Rattle.laws.specs.Found.{foundAt, findIn}
 use Rattle.laws.proofs.Shown.{view-is}
 
 pub place-find : (f key : List ℕ) (es : List PairEntry) → foundAt f (place f key es) ≡ find key (map (shown f) es)
 unfolding foundAt place find shown valueIn
 place-find f key [] = refl
 place-find f key (e ∷ es) = pick-ap (foundAt f) (same key (keyIn f e)) _ _ ∙ ap (pick (same key (keyIn f e)) (found (valueIn f e))) (place-find f key es)
-
--- the part handed back is the value
-part-found : (f : List ℕ) (y : Looked) → part f y ≡ valueOf (foundAt f y)
-unfolding part valueOf foundAt
-part-found f (Refused e) = refl
-part-found f Absent = refl
-part-found f (At s n) = refl
-
-pub part-find : (f key : List ℕ) (es : List PairEntry) → part f (place f key es) ≡ valueOf (find key (map (shown f) es))
-part-find f key es = part-found f (place f key es) ∙ ap valueOf (place-find f key es)
 
 -- a lookup in a map finds what the map shows
 any-length : (y : Looked) → ofLength anyLength y ≡ y

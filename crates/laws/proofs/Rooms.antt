@@ -8,32 +8,21 @@ use native.Mathlib.Omega.{arith}
 use borrow.Author.Tests.{le-leb, leb-true}
 use lib.Dec.{leb}
 use lib.ListN.{length}
-use lib.Seq.{length-sets}
 use Rattle.format.specs.Refusals.{numberOf}
 use Rattle.format.specs.Rules.{span, within}
 use Rattle.format.specs.Content.{Content, psbtOf, magic}
 use Rattle.format.specs.Reading.{Reading, done, refusal, begins, pair, ended, events, Verdict, accepted, refused, outcome, reading}
-use Rattle.format.specs.Entries.{pairWords, mapWords, hasRoom, pairEntryWords, mapEntryWords, putPair, putMap, entryOf, width}
+use Rattle.format.specs.Entries.{pairWords, mapWords, hasRoom, putPair, putMap, entryOf, width}
 use Rattle.format.specs.Parse.{ParseOut, out, cut, parsed}
 use Rattle.format.specs.declared.PsbtError.{PsbtError}
 use Rattle.format.specs.declared.PsbtError.the-variants.{PairsFull, MapsFull}
 use Rattle.format.specs.declared.Psbt.{Psbt}
-use Rattle.format.specs.declared.PairEntry.{PairEntry}
-use Rattle.format.specs.declared.MapEntry.{MapEntry}
 use Rattle.format.specs.declared.Parsed.the-variants.{Accepted, Refused}
+use Rattle.format.proofs.Entries.{length-putPair, length-putMap}
 use Rattle.format.proofs.Tests.{pick-by, never-true}
 use Rattle.laws.specs.Given.{given, ofFile}
 use Rattle.laws.specs.Rooms.{pairs#, begun#, ended#, Roomy, answer, answerOf}
 use Rattle.laws.proofs.Orderly.{Orderly, events-orderly}
-
--- writing an entry keeps a table's length
-pub length-putPair : (P : List ℕ) (p : ℕ) (e : PairEntry) → length (putPair P p e) ≡ length P
-unfolding putPair
-length-putPair P p e = length-sets P (p * pairWords) (pairEntryWords e)
-
-pub length-putMap : (M : List ℕ) (m : ℕ) (e : MapEntry) → length (putMap M m e) ≡ length M
-unfolding putMap
-length-putMap M m e = length-sets M (m * mapWords) (mapEntryWords e)
 
 pub has-room : (w n k : ℕ) (t : List ℕ) → (n + suc k) * w ≤ length t → hasRoom w n t ≡ true
 unfolding hasRoom

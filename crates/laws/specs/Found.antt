@@ -1,6 +1,6 @@
 -- What a lookup by place finds in the file.
 use Prim.Native.Nat.{ℕ}
-use mathlib.Core.List.{List, []}
+use mathlib.Core.List.{List}
 use lib.ListN.{take, drop}
 use Rattle.format.specs.Content.{Found, absent, found, find}
 use Rattle.format.specs.Tables.{View, hides, shows}
@@ -12,11 +12,6 @@ unfoldable pub foundAt : List ℕ → Looked → Found
 foundAt f (Refused e) = absent
 foundAt f Absent = absent
 foundAt f (At s n) = found (take n (drop s f))
-
--- the bytes of a value, none where it is absent
-unfoldable pub valueOf : Found → List ℕ
-valueOf absent = []
-valueOf (found v) = v
 
 -- the value of a key in a map that shows its pairs
 unfoldable pub findIn : List ℕ → View → Found

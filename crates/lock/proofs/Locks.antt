@@ -24,7 +24,6 @@ use Rattle.lock.specs.declared.Kind.the-variants.{Unasked, Asked}
 use Rattle.lock.specs.declared.Fault.the-variants.{Nowhere, Input}
 use Rattle.lock.specs.declared.Asks.{Asks}
 use Rattle.lock.specs.declared.LockTime.{LockTime}
-use Rattle.lock.specs.declared.LockTime.the-variants as T
 use Rattle.lock.specs.Asks.{seenIn, noAsks, walk, heightBy, timeBy, decideKinds, decideBy, decideAsks, lockedBy}
 use Rattle.lock.proofs.Decisions.{decides}
 
@@ -70,9 +69,6 @@ module _ (n i : ℕ) where
 pub ruleset judged = (height-is, height-great, time-small, time-is)
 
 -- both kinds
-pub zero-by : (m x : Maybe) (n : ℕ) → m ≡ x → n ≡ orZero x → n ≡ orZero m
-zero-by m x n e h = h ∙ sym (ap orZero e)
-
 module _ (fallback : ℕ) (h t : Kind) where
   pub none-asked : h ≡ Unasked → t ≡ Unasked → L.Fallback fallback ≡ decideKinds fallback h t
   unfolding decideKinds
@@ -126,13 +122,3 @@ pub ruleset calls = (all-are, told-refused, told-decided)
 -- the lock time that was decided
 pub locked-by : (l x : Lock) (r : LockTime) → l ≡ x → lockedBy r ≡ lockOf x → lockedBy r ≡ lockOf l
 locked-by l x r e h = h ∙ sym (ap lockOf e)
-
-pub one-time : (l : Lock) (a b : LockTime) → lockedBy a ≡ lockOf l → lockedBy b ≡ lockOf l → a ≡ b
-unfolding lockedBy
-one-time l a b p q = by a b (p ∙ sym q)
-  where
-    by : (a b : LockTime) → lockedBy a ≡ lockedBy b → a ≡ b
-    by (T.Refused e) (T.Refused x) h = let k : e ≡ x = cc in cc
-    by (T.Refused e) (T.Is n) h = let z : _≡_ {A = ℕ} 0 1 = cc in absurd (omega arith)
-    by (T.Is n) (T.Refused e) h = let z : _≡_ {A = ℕ} 0 1 = cc in absurd (omega arith)
-    by (T.Is n) (T.Is k) h = let e : n ≡ k = cc in cc

@@ -9,7 +9,7 @@ use format::Ruled;
 ghost use mathlib.Core.Path.{_≡_};
 ghost use Prim.Native.Nat.{_+_};
 ghost use Rattle.format.specs.Tables.{view};
-ghost use Rattle.format.specs.Locks.{orZero, lockOf};
+ghost use Rattle.format.specs.Locks.{lockOf};
 ghost use Rattle.format.specs.Transaction.{lockDecided};
 ghost use Rattle.format.specs.Told.{toldLock};
 ghost use Rattle.all_maps.specs.Alls.{Whole, AllFit, inAt, insOf};
@@ -178,15 +178,6 @@ fn all_asks(file: &[u8], pairs: &[u32], maps: &[u32], psbt: Psbt) -> Asks
     asks
 }
 
-fn or_zero(m: Maybe) -> u32
-    ensures { λ r. ⌜ r ≡ orZero m ⌝ }
-{
-    match m {
-        Maybe::Absent => 0,
-        Maybe::Present(n) => n,
-    }
-}
-
 // A greatest height must be a height, a greatest time a time.
 fn height_lock(number: u32, input: u64) -> Lock
     ensures { λ r. ⌜ r ≡ heightBy number input ⌝ }
@@ -235,7 +226,7 @@ fn decide(fallback: Maybe, asks: Asks) -> Lock
     let height = asks.height;
     let time = asks.time;
     match fault {
-        Fault::Nowhere => decide_kinds(or_zero(fallback), height, time),
+        Fault::Nowhere => decide_kinds(fallback.or_zero(), height, time),
         Fault::Input(input) => Lock::Malformed { input },
     }
 }

@@ -1,8 +1,6 @@
 // The line that answers the lookups of a file: every pair of its maps, every typed field, and what the keys that stand in
 // the file find.
-use answer_lines::put;
 use answer_lines::put_hex;
-use answer_lines::put_number;
 use answer_lines::put_refusal;
 use answer_lines::put_refused;
 use answer_lines::put_word;
@@ -23,6 +21,8 @@ use lookup::part_of;
 use payments::global;
 use payments::input as signers;
 use payments::output as members;
+use text::put;
+use text::put_decimal;
 use typed::input;
 use typed::output;
 
@@ -38,7 +38,7 @@ const SHOWN: usize = 4;
 pub fn put_place(out: &mut [u8], at: usize, start: usize, len: usize) -> usize {
     let to = put_word(out, at, start as u64);
     let to = put(out, to, b":");
-    put_number(out, to, len as u64)
+    put_decimal(out, to, len as u64)
 }
 
 pub fn put_looked(out: &mut [u8], at: usize, x: Looked) -> usize {
@@ -64,7 +64,7 @@ pub fn put_listing(out: &mut [u8], at: usize, x: Listing) -> usize {
         Listing::Pairs { first, count } => {
             let to = put_word(out, at, first as u64);
             let to = put(out, to, b"+");
-            put_number(out, to, count as u64)
+            put_decimal(out, to, count as u64)
         }
     }
 }

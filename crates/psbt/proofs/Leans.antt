@@ -1,20 +1,19 @@
 -- Reading with what is known carried along gives what the definition's reading gives: the file's events, and at their end what is reported.
-use Prim.Native.Nat.{ℕ, zero, suc, _+_, _-_, _≤_, _<_}
+use Prim.Native.Nat.{ℕ, zero, suc, _+_, _-_, _<_}
 use mathlib.Core.Path.{_≡_, refl, sym, _∙_, ap, subst}
-use mathlib.Core.Bool.{Bool, true, false}
-use mathlib.Core.List.{List, [], _∷_, _++_}
+use mathlib.Core.Bool.{Bool}
+use mathlib.Core.List.{List, [], _∷_}
 use native.Mathlib.Omega.{arith}
 use borrow.Author.Tests.{lt-ltb, le-ltb, ne-eqb}
-use lib.Dec.{ltb, eqb}
+use lib.Dec.{eqb}
 use lib.ListN.{length, length-append}
 use Rattle.format.specs.Tests.{pick}
 use Rattle.format.specs.Rules.{andThen, GLOBAL, INPUT, OUTPUT}
-use Rattle.format.specs.Content.{Pair, Map, Content, field, counted, psbtOf, globalRule, modifiable, outputRule, outputsRule}
+use Rattle.format.specs.Content.{Pair, Map, field, counted, psbtOf, globalRule, modifiable, outputRule, outputsRule}
 use Rattle.format.specs.Reading.{Item, stop, over, one, item, Mapped, ends, stops, front, turn, items, mapped, Reading, pairEvents, mapEvents, mapsEvents, unless, lastly, globalThen}
 use Rattle.format.specs.Reading as R
 use Rattle.format.specs.Entries.{pairWords, mapWords, hasRoom, putPair, putMap, entryOf, width}
 use Rattle.format.specs.Parse.{ParseOut, out, cut}
-use Rattle.format.specs.declared.PsbtError.{PsbtError}
 use Rattle.format.specs.declared.PsbtError.the-variants.{UnexpectedEof, PairsFull, MapsFull}
 use Rattle.format.specs.declared.Ruled.{Ruled}
 use Rattle.format.specs.declared.Ruled.the-variants.{Passed, Refused}
@@ -26,12 +25,11 @@ use Rattle.format.proofs.Numbers.{All}
 use Rattle.laws.specs.Fine.{Rises, Keeps}
 use Rattle.laws.proofs.Items.{ItemIs, item-is}
 use Rattle.laws.proofs.Files.{pair-some}
-use Rattle.psbt.specs.Walks.{note, withGlobals, withSeen, atFirst, unseen, globalsRule, psbtFrom, seenRule, closeGlobal, closeOutput, close, finishBy, finish, anInput, anOutput, start, afterBy, after}
+use Rattle.psbt.specs.Walks.{note, withGlobals, withSeen, atFirst, globalsRule, psbtFrom, closeGlobal, closeOutput, close, finishBy, finish, anInput, anOutput, start, afterBy, after}
 use Rattle.psbt.specs.Leans.{Lean, done, refusal, begins, pair, ended, lean, cutLean, left, goOn, walkTurn, go, walk}
 use Rattle.psbt.specs.declared.Walk.{Walk}
 use Rattle.psbt.specs.declared.Next.{Next}
 use Rattle.psbt.specs.declared.Next.the-variants.{Stop, Done, Map as More}
-use Rattle.psbt.specs.declared.Closed.the-variants.{Bad, Good}
 use Rattle.psbt.proofs.Notes.{noteAll, foundGlobals, foundSeen, global-noted, output-noted, input-noted, psbt-from, global-rule, seen-rule, inputs-counted, outputs-counted}
 
 pub cut-lean : (at p m i : ℕ) (P M : List ℕ) (r : Reading) → cut at p m i P M r ≡ cutLean at p m i P M (lean r)

@@ -9,13 +9,11 @@ use native.Mathlib.Nat.{add-sub-cancel-left}
 use native.Mathlib.Omega.{arith}
 use borrow.Author.Tests.{not-true, not-false, leb-true, lt-ltb, le-ltb}
 use lib.Dec.{ltb, leb·suc-suc}
-use lib.ListN.{length, take, drop, length-take, length-drop}
+use lib.ListN.{length, take, drop, length-drop}
 use lib.Seq.{drop-drop}
 use mir.Syntax.{w64}
 use mir.Val.{Fits}
 use Rattle.format.specs.Tests.{pick}
-use Rattle.format.specs.Content.{magic}
-use Rattle.format.specs.Reading.{limit}
 use Rattle.format.specs.Entries.{pairWords, mapWords, hasRoom, putPair, putMap}
 use Rattle.format.specs.Parse.{ParseOut, out}
 use Rattle.format.specs.declared.PsbtError.{PsbtError}
@@ -31,9 +29,9 @@ use Rattle.parsed_map.specs.declared.Item.the-variants as I
 use Rattle.parsed_map.proofs.Items.{over-in, over-length, one-in, width-is, entry-is}
 use Rattle.parsed_map.proofs.Twins.{twin}
 use Rattle.entries.specs.Words.{PairFits, MapFits}
-use Rattle.entries.proofs.Tables.{length-putPair, length-putMap}
-use Rattle.psbt.specs.Walks.{note, atFirst, after}
-use Rattle.psbt.specs.Leans.{Lean, begins, cutLean, left, goOn, walkTurn, walk, mapsRead}
+use Rattle.format.proofs.Entries.{length-putPair, length-putMap}
+use Rattle.psbt.specs.Walks.{atFirst, after}
+use Rattle.psbt.specs.Leans.{begins, cutLean, left, goOn, walkTurn, walk, mapsRead}
 use Rattle.psbt.specs.Steps.{Places, InLimit, stepBy, stepAt}
 use Rattle.psbt.specs.declared.Walk.{Walk}
 use Rattle.psbt.specs.declared.Step.{Step}

@@ -1,7 +1,7 @@
 -- Noting a field at its pair, along pairs whose keys rise, is finding it among them.
-use Prim.Native.Nat.{ℕ, _≤_, _%_}
+use Prim.Native.Nat.{ℕ, _≤_}
 use mathlib.Core.Path.{_≡_, refl, sym, _∙_, ap, subst}
-use mathlib.Core.Bool.{Bool, true, false, not}
+use mathlib.Core.Bool.{Bool, true, false}
 use mathlib.Core.List.{List, [], _∷_}
 use native.Mathlib.Omega.{arith}
 use borrow.Author.Tests.{ne-eqb, eqb-true}
@@ -9,7 +9,7 @@ use lib.Dec.{eqb}
 use lib.ListN.{length}
 use lib.Seq.{take-all}
 use Rattle.format.specs.Tests.{pick}
-use Rattle.format.specs.Numbers.{le, signed}
+use Rattle.format.specs.Numbers.{le}
 use Rattle.format.specs.Compact.{size, countBy, count}
 use Rattle.format.specs.Keys.{typeOf, dataOf, keyOf, order, same, isSame}
 use Rattle.format.specs.Rules.{GLOBAL, INPUT, OUTPUT, valueFits, isRow, rowRule, sizesIn, sizes, countRule, bareRule, andThen, rule}
@@ -21,7 +21,6 @@ use Rattle.format.specs.declared.Size.the-variants.{Bad, Read}
 use Rattle.format.specs.declared.Order.the-variants.{Below}
 use Rattle.format.specs.declared.Ruled.{Ruled}
 use Rattle.format.specs.declared.Ruled.the-variants.{Passed, Refused}
-use Rattle.format.specs.declared.Maybe.{Maybe}
 use Rattle.format.specs.declared.Maybe.the-variants.{Absent, Present}
 use Rattle.format.proofs.Tests.{pick-by}
 use Rattle.format.proofs.Keys.{order-trans, same-is}

@@ -90,15 +90,7 @@ module _ (m : Maybe) where
   unfolding there
   there-present n h = sym (ap there h)
 
-  pub zero-absent : m ≡ Absent → 0 ≡ orZero m
-  unfolding orZero
-  zero-absent h = sym (ap orZero h)
-
-  pub zero-present : (n : ℕ) → m ≡ Present n → n ≡ orZero m
-  unfolding orZero
-  zero-present n h = sym (ap orZero h)
-
-pub ruleset maybes = (there-absent, there-present, zero-absent, zero-present)
+pub ruleset maybes = (there-absent, there-present)
 
 -- the fields noted together
 pub note-fields : (g : Globals) (key v : List ℕ) (a b : Maybe) (c d : ℕ) (e f : Maybe) (x y : Bool)

@@ -1,7 +1,7 @@
 -- A step at a place: laws for each way through it, and that a step is what the walk does there.
 use Prim.Native.Nat.{ℕ, _+_, _-_, _^_, _≤_, _<_}
-use mathlib.Core.Path.{_≡_, refl, sym, _∙_, ap}
-use mathlib.Core.List.{List, []}
+use mathlib.Core.Path.{_≡_, sym, _∙_, ap}
+use mathlib.Core.List.{List}
 use native.Mathlib.Nat.{add-sub-cancel-left}
 use native.Mathlib.Omega.{arith}
 use lib.ListN.{length, take, drop}
@@ -16,7 +16,6 @@ use Rattle.parsed_map.proofs.Items.{over-in, one-in}
 use Rattle.psbt.specs.Walks.{note}
 use Rattle.psbt.specs.Steps.{Places, stepBy, stepAt}
 use Rattle.psbt.specs.declared.Walk.{Walk}
-use Rattle.psbt.specs.declared.Step.{Step}
 use Rattle.psbt.specs.declared.Step.the-variants.{Stop, Over, One}
 
 -- the limit fits the words of an entry: the one place where its number matters

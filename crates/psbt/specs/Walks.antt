@@ -1,6 +1,6 @@
 -- What is carried along a file by value, pair by pair and map by map: no table is needed for the verdict.
 use Prim.Native.Nat.{ℕ, _-_, _%_}
-use mathlib.Core.Bool.{Bool, true, false, not, _&&_, _||_}
+use mathlib.Core.Bool.{Bool, true, false, not, _&&_}
 use mathlib.Core.List.{List, []}
 use lib.Dec.{ltb, eqb}
 use Rattle.format.specs.Tests.{pick}

@@ -5,14 +5,13 @@ ghost use mathlib.Core.List.{[]};
 ghost use Rattle.format.specs.Keys.{same};
 ghost use Rattle.format.specs.Numbers.{signed};
 ghost use Rattle.format.specs.Content.{magic, sizeValue, outputBy};
-ghost use Rattle.format.specs.Locks.{orZero};
 ghost use Rattle.format.specs.Rules.{andThen};
 ghost use lib.ListN.{length, take};
 ghost use Rattle.format.specs.Parse.{out, parsed};
 ghost use Rattle.format.specs.Told.{toldWith, toldParsed, toldParse};
 ghost use Rattle.psbt.specs.Leans.{mapsRead};
 ghost use Rattle.psbt.specs.Steps.{Places, InLimit, stepAt};
-ghost use Rattle.psbt.specs.Walks.{noted, notedCount, notedThere, noteGlobal, noteOutput, note, globalsRule, allThere, versionRule, psbtFrom, flags, seenRule, closeGlobal, closeOutput, close, finish, finishBy, anInput, anOutput, start, afterBy, after, there, atFirst};
+ghost use Rattle.psbt.specs.Walks.{noted, notedCount, notedThere, noteGlobal, noteOutput, note, globalsRule, allThere, versionRule, psbtFrom, flags, closeGlobal, closeOutput, close, finish, start, after, there, atFirst};
 use entries::has_map_room;
 use entries::has_pair_room;
 use entries::write_map;
@@ -209,15 +208,6 @@ fn is_there(m: Maybe) -> bool
     }
 }
 
-fn or_zero(m: Maybe) -> u32
-    ensures { λ r. ⌜ r ≡ orZero m ⌝ }
-{
-    match m {
-        Maybe::Absent => 0,
-        Maybe::Present(n) => n,
-    }
-}
-
 fn both(a: bool, b: bool) -> bool
     ensures { λ r. ⌜ r ≡ (a && b) ⌝ }
 {
@@ -238,7 +228,7 @@ fn has_counts(g: Globals) -> bool
 fn check_version(psbt_version: Maybe) -> Ruled
     ensures { λ r. ⌜ r ≡ versionRule «psbt_version» ⌝ }
 {
-    if or_zero(psbt_version) == 2 {
+    if psbt_version.or_zero() == 2 {
         Ruled::Passed
     } else {
         Ruled::Refused(PsbtError::NotAllowed)
@@ -278,7 +268,7 @@ fn psbt_of(g: Globals) -> Psbt
     let inputs = g.n_inputs;
     let outputs = g.n_outputs;
     Psbt {
-        tx_version: signed(or_zero(tx_version)),
+        tx_version: signed(tx_version.or_zero()),
         fallback_locktime,
         tx_modifiable,
         inputs,
@@ -290,7 +280,7 @@ fn psbt_of(g: Globals) -> Psbt
 fn is_modifiable(tx_modifiable: Maybe) -> bool
     ensures { λ r. ⌜ r ≡ flags «tx_modifiable» ⌝ }
 {
-    or_zero(tx_modifiable) & 0b11 != 0
+    tx_modifiable.or_zero() & 0b11 != 0
 }
 
 // The rules of silent payments for one output.

@@ -1,7 +1,7 @@
 -- What the setter's loop keeps: from the question at hand on, the turns come to what the definition gives. Proved for the records of a list of numbers, by the
 -- laws of the setter over numbers, and then for any records.
 use mathlib.Core.Path.{_≡_, refl, sym, _∙_, ap, subst}
-use mathlib.Core.Bool.{Bool, true, false, not}
+use mathlib.Core.Bool.{Bool, true, false}
 use mathlib.Core.List.{List, [], _∷_}
 use Prim.Native.Nat.{ℕ, suc, _+_, _-_, _*_, _/_, _%_, _≤_, _<_, zero-le}
 use native.Mathlib.Omega.{arith}

@@ -1,5 +1,4 @@
 // The line that answers calls over tables that a record carries itself, and that may hold anything.
-use answer_lines::put;
 use answer_lines::put_hex;
 use answer_lines::put_refusal;
 use answer_lines::put_word;
@@ -16,6 +15,7 @@ use lookup_lines::put_nth;
 use lookup_lines::put_output;
 use lookup_lines::put_participants;
 use lookup_lines::put_signer;
+use text::put;
 use tx_lines::Job;
 use tx_lines::further;
 use tx_lines::list_room;

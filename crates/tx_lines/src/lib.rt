@@ -1,7 +1,6 @@
 // The lines that answer the unsigned transaction of a file, plain or with scripts set for its outputs.
 ghost use mathlib.Core.Path.{_≡_};
 ghost use lib.ListN.{length};
-use answer_lines::put;
 use answer_lines::put_hex;
 use answer_lines::put_refusal;
 use answer_lines::put_refused;
@@ -13,6 +12,7 @@ use format::ScriptsSet;
 use format::State;
 use format::UnsignedTx;
 use lookup_lines::front;
+use text::put;
 
 // The lists that are given to the setter: a right one, and ways in which one can be wrong.
 const EMPTY: u8 = 1;

@@ -3,7 +3,7 @@ use mathlib.Core.Path.{_≡_, refl, sym, _∙_, ap}
 use mathlib.Core.List.{List, [], _∷_}
 use Prim.Native.Nat.{ℕ, _+_, _-_, _^_, _≤_, _<_}
 use native.Mathlib.Omega.{arith}
-use borrow.Author.Tests.{leb-true, leb-false}
+use borrow.Author.Tests.{leb-true}
 use lib.Dec.{leb, ltb, eqb}
 use lib.ListN.{length, take, drop, length-drop}
 use mir.Syntax.{w64}
@@ -86,13 +86,6 @@ pub record TakenIs (s : List ℕ) (p n a : ℕ) (c : Cursor) : Type 0 where
   pub next : c .pos ≡ p + n
 
 module _ (s : List ℕ) (p n : ℕ) (o : Taken) (at : o ≡ takeAt s p n) where
-  pub take-bad : (e : PsbtError) → o ≡ T.Bad e → (remaining s p < n) × (e ≡ UnexpectedEof)
-  unfolding takeAt
-  take-bad e f =
-      pick-by (λ (x : Taken). o ≡ x → (remaining s p < n) × (e ≡ UnexpectedEof)) (leb n (remaining s p)) _ _
-      (λ q (h : o ≡ T.Part p (cursor (p + n))). let z : _≡_ {A = ℕ} 0 1 = cc in absurd (omega arith))
-      (λ q (h : o ≡ T.Bad UnexpectedEof). (leb-false n (remaining s p) q, (cc))) at
-
   module _ (a : ℕ) (c : Cursor) (f : o ≡ T.Part a c) where
     pub take-is : TakenIs s p n a c
     unfolding takeAt
@@ -175,18 +168,6 @@ module _ (s : List ℕ) (p : ℕ) (o : Prefixed) (at : o ≡ prefixedAt s p) whe
   behind-by : (z : Size) → size (drop p s) ≡ z → o ≡ prefixedBy s p z
   unfolding prefixedAt
   behind-by z q = at ∙ ap (prefixedBy s p) q
-
-  pub prefixed-bad : {R : Type 0} (e : PsbtError) → o ≡ P.Bad e → (size (drop p s) ≡ Z.Bad e → R)
-      → ((n u : ℕ) → size (drop p s) ≡ Z.Read n u → remaining s (p + u) < n → e ≡ UnexpectedEof → R) → R
-  unfolding prefixedBy
-  prefixed-bad {R} e f j k = by (size (drop p s)) refl
-    where
-      by : (z : Size) → size (drop p s) ≡ z → R
-      by (Z.Bad x) q = let g : o ≡ P.Bad x = behind-by (Z.Bad x) q in let y : x ≡ e = cc in j (rw y at q)
-      by (Z.Read n u) q =
-          pick-by (λ (x : Prefixed). o ≡ x → R) (leb n (remaining s (p + u))) _ _
-          (λ t (h : o ≡ P.Part (p + u) n (cursor (p + u + n))). let z : _≡_ {A = ℕ} 0 1 = cc in absurd (omega arith))
-          (λ t (h : o ≡ P.Bad UnexpectedEof). k n u q (leb-false n (remaining s (p + u)) t) (cc)) (behind-by (Z.Read n u) q)
 
   module _ (a n : ℕ) (c : Cursor) (f : o ≡ P.Part a n c) where
     pub prefixed-is : PrefixedIs s p a n c

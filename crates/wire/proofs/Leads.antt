@@ -70,9 +70,6 @@ lead-all w s h = ap le (take-all w s h)
 pub lead-short : (w r : ℕ) (s : List ℕ) → length s < w → r ≡ le s → r ≡ lead w s
 lead-short w r s h e = e ∙ sym (lead-all w s (omega arith))
 
-pub lead-whole : (w r : ℕ) (s : List ℕ) → length s ≤ w → r ≡ lead w s → r ≡ le s
-lead-whole w r s h e = e ∙ lead-all w s h
-
 -- a number of w bytes is below 256 ^ w, so it fits as many bits
 pub lead-below : (s : List ℕ) (w : ℕ) → Bytes8 s → lead w s < 256 ^ w
 unfolding lead

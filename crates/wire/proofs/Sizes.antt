@@ -12,7 +12,7 @@ use lib.Seq.{take-all, take-take}
 use mir.Syntax.{w64}
 use mir.Val.{Fits}
 use Rattle.format.specs.Tests.{pick}
-use Rattle.format.specs.Compact.{long, sizeBy, size, countBy, count}
+use Rattle.format.specs.Compact.{long, sizeBy, size, countBy}
 use Rattle.format.specs.declared.PsbtError.{PsbtError}
 use Rattle.format.specs.declared.PsbtError.the-variants.{UnexpectedEof, InvalidCompactSize}
 use Rattle.format.specs.declared.Size.{Size}
@@ -138,8 +138,3 @@ pub size-front : (v : List ℕ) → size (take 9 v) ≡ size v
 unfolding size sizeBy
 size-front [] = refl
 size-front (b ∷ r) = rw (long-front 2 8 r (omega arith), long-front 4 8 r (omega arith), long-front 8 8 r (omega arith))
-
--- so a count is judged by its length and its front
-pub count-front : (o : Size) (n : ℕ) (v f : List ℕ) → n ≡ length v → f ≡ take 9 v → o ≡ countBy n (size f) → o ≡ count v
-unfolding count
-count-front o n v f h g e = rw (h, g, size-front v) at e

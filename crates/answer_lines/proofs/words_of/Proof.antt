@@ -1,6 +1,6 @@
 -- `answer_lines::words_of` meets its contract.
 use borrow.Author.Needs.{needs}
-use Rattle.answer_lines.proofs.Lays.{words}
+use Rattle.answer_lines.proofs.Words.{words}
 use Rattle.answer_lines.proofs.words_of.Statement.{statement}
 use Rattle.answer_lines.proofs.words_of.Tie as tie
 

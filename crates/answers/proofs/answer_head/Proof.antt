@@ -1,6 +1,6 @@
 -- `answers::answer_head` is safe and ends.
 use borrow.Author.Needs.{needs}
-use Rattle.answer_lines.proofs.Lays.{front-length}
+use Rattle.wire.proofs.Leads.{front-length}
 use Rattle.answers.proofs.answer_head.Statement.{statement}
 use Rattle.answers.proofs.answer_head.Tie as tie
 

@@ -1,6 +1,6 @@
 -- `answers::write_lines` is safe and ends.
 use borrow.Author.Needs.{needs}
-use Rattle.answer_lines.proofs.Lays.{front-length}
+use Rattle.wire.proofs.Leads.{front-length}
 use Rattle.answers.proofs.write_lines.Statement.{statement}
 use Rattle.answers.proofs.write_lines.Tie as tie
 

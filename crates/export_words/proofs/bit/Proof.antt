@@ -3,8 +3,6 @@ use borrow.Author.Needs.{needs}
 use Rattle.export_words.specs.Words.{word}
 use Rattle.export_words.proofs.bit.Statement.{statement}
 use Rattle.export_words.proofs.bit.Tie as tie
-use Rattle.export_words.proofs.bit.Reads as reads
-use Rattle.export_words.proofs.bit.Lts as lts
 
 -- needs: needs | word
 pub bit-spec : {M : Type 1} → statement M

@@ -3,11 +3,6 @@ use borrow.Author.Needs.{needs}
 use Rattle.export_words.proofs.Words.{reports}
 use Rattle.export_words.proofs.psbt_of.Statement.{statement}
 use Rattle.export_words.proofs.psbt_of.Tie as tie
-use Rattle.export_words.proofs.psbt_of.Reads as reads
-use Rattle.export_words.proofs.psbt_of.Lts as lts
-use Rattle.export_words.proofs.maybe_of.Reads as maybe-of-reads
-use Rattle.export_words.proofs.word.Reads as word-reads
-use Rattle.psbt.proofs.signed.Reads as signed-reads
 
 -- needs: needs, reports
 pub psbt-of-spec : {M : Type 1} → statement M

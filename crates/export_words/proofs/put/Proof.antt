@@ -3,9 +3,6 @@ use borrow.Author.Needs.{needs}
 use Rattle.export_words.proofs.Words.{puts}
 use Rattle.export_words.proofs.put.Statement.{statement}
 use Rattle.export_words.proofs.put.Tie as tie
-use Rattle.export_words.proofs.put.Reads as reads
-use Rattle.export_words.proofs.put.Lts as lts
-use Rattle.export_words.proofs.put_words.Reads as put-words-reads
 
 -- needs: needs, puts
 pub put-spec : {M : Type 1} → statement M

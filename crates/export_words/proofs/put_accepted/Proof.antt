@@ -3,11 +3,6 @@ use borrow.Author.Needs.{needs}
 use Rattle.export_words.proofs.Answers.{parseds}
 use Rattle.export_words.proofs.put_accepted.Statement.{statement}
 use Rattle.export_words.proofs.put_accepted.Tie as tie
-use Rattle.export_words.proofs.put_accepted.Reads as reads
-use Rattle.export_words.proofs.put_accepted.Lts as lts
-use Rattle.export_words.proofs.put.Reads as put-reads
-use Rattle.export_words.proofs.word_of.Reads as word-of-reads
-use Rattle.writer.proofs.bits_of.Reads as bits-of-reads
 
 -- needs: needs, parseds
 pub put-accepted-spec : {M : Type 1} → statement M

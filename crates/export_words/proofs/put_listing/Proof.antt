@@ -3,10 +3,6 @@ use borrow.Author.Needs.{needs}
 use Rattle.export_words.proofs.Answers.{listings}
 use Rattle.export_words.proofs.put_listing.Statement.{statement}
 use Rattle.export_words.proofs.put_listing.Tie as tie
-use Rattle.export_words.proofs.put_listing.Reads as reads
-use Rattle.export_words.proofs.put_listing.Lts as lts
-use Rattle.export_words.proofs.put.Reads as put-reads
-use Rattle.format.proofs.PsbtError.number.Reads as number-reads
 
 -- needs: needs, listings
 pub put-listing-spec : {M : Type 1} → statement M

@@ -3,10 +3,6 @@ use borrow.Author.Needs.{needs}
 use Rattle.export_words.proofs.Answers.{lookeds}
 use Rattle.export_words.proofs.put_looked.Statement.{statement}
 use Rattle.export_words.proofs.put_looked.Tie as tie
-use Rattle.export_words.proofs.put_looked.Reads as reads
-use Rattle.export_words.proofs.put_looked.Lts as lts
-use Rattle.export_words.proofs.put.Reads as put-reads
-use Rattle.format.proofs.PsbtError.number.Reads as number-reads
 
 -- needs: needs, lookeds
 pub put-looked-spec : {M : Type 1} → statement M

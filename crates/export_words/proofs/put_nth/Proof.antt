@@ -3,10 +3,6 @@ use borrow.Author.Needs.{needs}
 use Rattle.export_words.proofs.Answers.{nths}
 use Rattle.export_words.proofs.put_nth.Statement.{statement}
 use Rattle.export_words.proofs.put_nth.Tie as tie
-use Rattle.export_words.proofs.put_nth.Reads as reads
-use Rattle.export_words.proofs.put_nth.Lts as lts
-use Rattle.export_words.proofs.put.Reads as put-reads
-use Rattle.format.proofs.PsbtError.number.Reads as number-reads
 
 -- needs: needs, nths
 pub put-nth-spec : {M : Type 1} → statement M

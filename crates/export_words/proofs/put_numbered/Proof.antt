@@ -3,10 +3,6 @@ use borrow.Author.Needs.{needs}
 use Rattle.export_words.proofs.Answers.{numbereds}
 use Rattle.export_words.proofs.put_numbered.Statement.{statement}
 use Rattle.export_words.proofs.put_numbered.Tie as tie
-use Rattle.export_words.proofs.put_numbered.Reads as reads
-use Rattle.export_words.proofs.put_numbered.Lts as lts
-use Rattle.export_words.proofs.put.Reads as put-reads
-use Rattle.format.proofs.PsbtError.number.Reads as number-reads
 
 -- needs: needs, numbereds
 pub put-numbered-spec : {M : Type 1} → statement M

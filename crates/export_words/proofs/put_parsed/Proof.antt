@@ -3,11 +3,6 @@ use borrow.Author.Needs.{needs}
 use Rattle.export_words.proofs.Answers.{parseds}
 use Rattle.export_words.proofs.put_parsed.Statement.{statement}
 use Rattle.export_words.proofs.put_parsed.Tie as tie
-use Rattle.export_words.proofs.put_parsed.Reads as reads
-use Rattle.export_words.proofs.put_parsed.Lts as lts
-use Rattle.export_words.proofs.put.Reads as put-reads
-use Rattle.export_words.proofs.put_accepted.Reads as put-accepted-reads
-use Rattle.format.proofs.PsbtError.number.Reads as number-reads
 
 -- needs: needs, parseds
 pub put-parsed-spec : {M : Type 1} → statement M

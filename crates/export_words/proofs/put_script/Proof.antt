@@ -3,10 +3,6 @@ use borrow.Author.Needs.{needs}
 use Rattle.export_words.proofs.Answers.{scripts}
 use Rattle.export_words.proofs.put_script.Statement.{statement}
 use Rattle.export_words.proofs.put_script.Tie as tie
-use Rattle.export_words.proofs.put_script.Reads as reads
-use Rattle.export_words.proofs.put_script.Lts as lts
-use Rattle.export_words.proofs.put.Reads as put-reads
-use Rattle.format.proofs.PsbtError.number.Reads as number-reads
 
 -- needs: needs, scripts
 pub put-script-spec : {M : Type 1} → statement M

@@ -3,11 +3,6 @@ use borrow.Author.Needs.{needs}
 use Rattle.export_words.proofs.Answers.{sets}
 use Rattle.export_words.proofs.put_set.Statement.{statement}
 use Rattle.export_words.proofs.put_set.Tie as tie
-use Rattle.export_words.proofs.put_set.Reads as reads
-use Rattle.export_words.proofs.put_set.Lts as lts
-use Rattle.export_words.proofs.bit.Reads as bit-reads
-use Rattle.export_words.proofs.put.Reads as put-reads
-use Rattle.format.proofs.PsbtError.number.Reads as number-reads
 
 -- needs: needs, sets
 pub put-set-spec : {M : Type 1} → statement M

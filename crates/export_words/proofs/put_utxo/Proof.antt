@@ -3,10 +3,6 @@ use borrow.Author.Needs.{needs}
 use Rattle.export_words.proofs.Answers.{utxos}
 use Rattle.export_words.proofs.put_utxo.Statement.{statement}
 use Rattle.export_words.proofs.put_utxo.Tie as tie
-use Rattle.export_words.proofs.put_utxo.Reads as reads
-use Rattle.export_words.proofs.put_utxo.Lts as lts
-use Rattle.export_words.proofs.put.Reads as put-reads
-use Rattle.format.proofs.PsbtError.number.Reads as number-reads
 
 -- needs: needs, utxos
 pub put-utxo-spec : {M : Type 1} → statement M

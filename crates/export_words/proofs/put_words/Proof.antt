@@ -5,8 +5,6 @@ use lib.ListN.{length}
 use Rattle.writer.proofs.Puts.{Copying, copies}
 use Rattle.export_words.proofs.put_words.Statement.{statement}
 use Rattle.export_words.proofs.put_words.Tie as tie
-use Rattle.export_words.proofs.put_words.Reads as reads
-use Rattle.export_words.proofs.put_words.Lts as lts
 
 abbrev Inv-loop : tie.InvT-loop
 Inv-loop buf₀ at src j₀ buf j = Copying buf₀ at src buf j

@@ -3,8 +3,6 @@ use borrow.Author.Needs.{needs}
 use Rattle.export_words.proofs.Words.{maybe-words}
 use Rattle.export_words.proofs.word_of.Statement.{statement}
 use Rattle.export_words.proofs.word_of.Tie as tie
-use Rattle.export_words.proofs.word_of.Reads as reads
-use Rattle.export_words.proofs.word_of.Lts as lts
 
 -- needs: needs, maybe-words
 pub word-of-spec : {M : Type 1} → statement M

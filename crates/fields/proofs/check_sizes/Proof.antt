@@ -4,10 +4,6 @@ use Rattle.format.specs.Rules.{sizes}
 use Rattle.fields.proofs.Types.{free-types}
 use Rattle.fields.proofs.check_sizes.Statement.{statement}
 use Rattle.fields.proofs.check_sizes.Tie as tie
-use Rattle.fields.proofs.check_sizes.Reads as reads
-use Rattle.fields.proofs.check_sizes.Lts as lts
-use Rattle.fields.proofs.has_type.Reads as has-type-reads
-use Rattle.fields.proofs.sizes_in.Reads as sizes-in-reads
 
 -- needs: needs, free-types | sizes
 pub check-sizes-spec : {M : Type 1} → statement M

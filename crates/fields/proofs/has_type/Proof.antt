@@ -5,8 +5,6 @@ use lib.ListN.{length}
 use Rattle.fields.proofs.Types.{TypeFrom, types}
 use Rattle.fields.proofs.has_type.Statement.{statement}
 use Rattle.fields.proofs.has_type.Tie as tie
-use Rattle.fields.proofs.has_type.Reads as reads
-use Rattle.fields.proofs.has_type.Lts as lts
 
 abbrev Inv-loop : tie.InvT-loop
 Inv-loop t rs i₀ i = TypeFrom rs t i

@@ -3,10 +3,6 @@ use borrow.Author.Needs.{needs}
 use Rattle.output_script.proofs.Scripts.{ways}
 use Rattle.output_script.proofs.in_table.Statement.{statement}
 use Rattle.output_script.proofs.in_table.Tie as tie
-use Rattle.output_script.proofs.in_table.Reads as reads
-use Rattle.output_script.proofs.in_table.Lts as lts
-use Rattle.scripts.proofs.entry_at.Reads as entry-at-reads
-use Rattle.scripts.proofs.entry_fits.Reads as entry-fits-reads
 
 -- needs: needs, ways
 pub in-table-spec : {M : Type 1} → statement M

@@ -4,10 +4,6 @@ use Rattle.lookup.proofs.Maps.{fits}
 use Rattle.output_script.proofs.Scripts.{public}
 use Rattle.output_script.proofs.output_script.Statement.{statement}
 use Rattle.output_script.proofs.output_script.Tie as tie
-use Rattle.output_script.proofs.output_script.Reads as reads
-use Rattle.output_script.proofs.output_script.Lts as lts
-use Rattle.lookup.proofs.fit_output.Reads as fit-output-reads
-use Rattle.output_script.proofs.script_in.Reads as script-in-reads
 
 -- needs: needs, fits, public
 pub output-script-spec : {M : Type 1} → statement M

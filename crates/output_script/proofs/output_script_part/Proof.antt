@@ -3,10 +3,6 @@ use borrow.Author.Needs.{needs}
 use Rattle.output_script.proofs.Scripts.{part-told}
 use Rattle.output_script.proofs.output_script_part.Statement.{statement}
 use Rattle.output_script.proofs.output_script_part.Tie as tie
-use Rattle.output_script.proofs.output_script_part.Reads as reads
-use Rattle.output_script.proofs.output_script_part.Lts as lts
-use Rattle.output_script.proofs.output_script.Reads as output-script-reads
-use Rattle.output_script.proofs.script_part.Reads as script-part-reads
 
 -- needs: needs, part-told
 pub output-script-part-spec : {M : Type 1} → statement M

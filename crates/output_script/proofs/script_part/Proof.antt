@@ -3,9 +3,6 @@ use borrow.Author.Needs.{needs}
 use Rattle.output_script.proofs.Scripts.{script-parts}
 use Rattle.output_script.proofs.script_part.Statement.{statement}
 use Rattle.output_script.proofs.script_part.Tie as tie
-use Rattle.output_script.proofs.script_part.Reads as reads
-use Rattle.output_script.proofs.script_part.Lts as lts
-use Rattle.lookup.proofs.part_of.Reads as part-of-reads
 
 -- needs: needs, script-parts
 pub script-part-spec : {M : Type 1} → statement M

@@ -3,10 +3,6 @@ use borrow.Author.Needs.{needs}
 use Rattle.psbt.proofs.Ends.{afters}
 use Rattle.psbt.proofs.after_map.Statement.{statement}
 use Rattle.psbt.proofs.after_map.Tie as tie
-use Rattle.psbt.proofs.after_map.Reads as reads
-use Rattle.psbt.proofs.after_map.Lts as lts
-use Rattle.psbt.proofs.close_map.Reads as close-map-reads
-use Rattle.psbt.proofs.start_map.Reads as start-map-reads
 
 -- needs: needs, afters
 pub after-map-spec : {M : Type 1} → statement M

@@ -3,8 +3,6 @@ use borrow.Author.Needs.{needs}
 use Rattle.psbt.proofs.Ends.{thens}
 use Rattle.psbt.proofs.and_then.Statement.{statement}
 use Rattle.psbt.proofs.and_then.Tie as tie
-use Rattle.psbt.proofs.and_then.Reads as reads
-use Rattle.psbt.proofs.and_then.Lts as lts
 
 -- needs: needs, thens
 pub and-then-spec : {M : Type 1} → statement M

@@ -3,10 +3,6 @@ use borrow.Author.Needs.{needs}
 use Rattle.psbt.proofs.Parts.{globals}
 use Rattle.psbt.proofs.check_globals.Statement.{statement}
 use Rattle.psbt.proofs.check_globals.Tie as tie
-use Rattle.psbt.proofs.check_globals.Reads as reads
-use Rattle.psbt.proofs.check_globals.Lts as lts
-use Rattle.psbt.proofs.check_version.Reads as check-version-reads
-use Rattle.psbt.proofs.has_counts.Reads as has-counts-reads
 
 -- needs: needs, globals
 pub check-globals-spec : {M : Type 1} → statement M

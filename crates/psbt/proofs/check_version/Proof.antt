@@ -3,9 +3,6 @@ use borrow.Author.Needs.{needs}
 use Rattle.psbt.proofs.Parts.{globals}
 use Rattle.psbt.proofs.check_version.Statement.{statement}
 use Rattle.psbt.proofs.check_version.Tie as tie
-use Rattle.psbt.proofs.check_version.Reads as reads
-use Rattle.psbt.proofs.check_version.Lts as lts
-use Rattle.psbt.proofs.or_zero.Reads as or-zero-reads
 
 -- needs: needs, globals
 pub check-version-spec : {M : Type 1} → statement M

@@ -3,9 +3,6 @@ use borrow.Author.Needs.{needs}
 use Rattle.psbt.proofs.Ends.{closeGlobals}
 use Rattle.psbt.proofs.close_global.Statement.{statement}
 use Rattle.psbt.proofs.close_global.Tie as tie
-use Rattle.psbt.proofs.close_global.Reads as reads
-use Rattle.psbt.proofs.close_global.Lts as lts
-use Rattle.psbt.proofs.check_globals.Reads as check-globals-reads
 
 -- needs: needs, closeGlobals
 pub close-global-spec : {M : Type 1} → statement M

@@ -3,10 +3,6 @@ use borrow.Author.Needs.{needs}
 use Rattle.psbt.proofs.Ends.{closes}
 use Rattle.psbt.proofs.close_map.Statement.{statement}
 use Rattle.psbt.proofs.close_map.Tie as tie
-use Rattle.psbt.proofs.close_map.Reads as reads
-use Rattle.psbt.proofs.close_map.Lts as lts
-use Rattle.psbt.proofs.close_global.Reads as close-global-reads
-use Rattle.psbt.proofs.close_output.Reads as close-output-reads
 
 -- needs: needs, closes
 pub close-map-spec : {M : Type 1} → statement M

@@ -4,9 +4,6 @@ use Rattle.wire.proofs.Leads.{front-length}
 use Rattle.psbt.proofs.Parses.{magics}
 use Rattle.psbt.proofs.has_magic.Statement.{statement}
 use Rattle.psbt.proofs.has_magic.Tie as tie
-use Rattle.psbt.proofs.has_magic.Reads as reads
-use Rattle.psbt.proofs.has_magic.Lts as lts
-use Rattle.keys.proofs.compare.Reads as compare-reads
 
 -- needs: needs, magics, front-length
 pub has-magic-spec : {M : Type 1} → statement M

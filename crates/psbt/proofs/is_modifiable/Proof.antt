@@ -3,9 +3,6 @@ use borrow.Author.Needs.{needs}
 use Rattle.psbt.proofs.Parts.{low-flags}
 use Rattle.psbt.proofs.is_modifiable.Statement.{statement}
 use Rattle.psbt.proofs.is_modifiable.Tie as tie
-use Rattle.psbt.proofs.is_modifiable.Reads as reads
-use Rattle.psbt.proofs.is_modifiable.Lts as lts
-use Rattle.psbt.proofs.or_zero.Reads as or-zero-reads
 
 -- needs: needs, low-flags
 pub is-modifiable-spec : {M : Type 1} → statement M

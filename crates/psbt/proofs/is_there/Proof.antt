@@ -3,8 +3,6 @@ use borrow.Author.Needs.{needs}
 use Rattle.psbt.proofs.Parts.{maybes}
 use Rattle.psbt.proofs.is_there.Statement.{statement}
 use Rattle.psbt.proofs.is_there.Tie as tie
-use Rattle.psbt.proofs.is_there.Reads as reads
-use Rattle.psbt.proofs.is_there.Lts as lts
 
 -- needs: needs, maybes
 pub is-there-spec : {M : Type 1} → statement M

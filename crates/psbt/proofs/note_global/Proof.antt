@@ -3,11 +3,6 @@ use borrow.Author.Needs.{needs}
 use Rattle.psbt.proofs.Parts.{note-fields}
 use Rattle.psbt.proofs.note_global.Statement.{statement}
 use Rattle.psbt.proofs.note_global.Tie as tie
-use Rattle.psbt.proofs.note_global.Reads as reads
-use Rattle.psbt.proofs.note_global.Lts as lts
-use Rattle.psbt.proofs.noted.Reads as noted-reads
-use Rattle.psbt.proofs.noted_count.Reads as noted-count-reads
-use Rattle.psbt.proofs.noted_there.Reads as noted-there-reads
 
 -- needs: needs, note-fields
 pub note-global-spec : {M : Type 1} → statement M

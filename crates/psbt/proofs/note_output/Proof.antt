@@ -3,9 +3,6 @@ use borrow.Author.Needs.{needs}
 use Rattle.psbt.proofs.Parts.{note-seen}
 use Rattle.psbt.proofs.note_output.Statement.{statement}
 use Rattle.psbt.proofs.note_output.Tie as tie
-use Rattle.psbt.proofs.note_output.Reads as reads
-use Rattle.psbt.proofs.note_output.Lts as lts
-use Rattle.psbt.proofs.noted_there.Reads as noted-there-reads
 
 -- needs: needs, note-seen
 pub note-output-spec : {M : Type 1} → statement M

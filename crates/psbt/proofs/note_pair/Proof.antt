@@ -3,10 +3,6 @@ use borrow.Author.Needs.{needs}
 use Rattle.psbt.proofs.Parts.{pairNotes}
 use Rattle.psbt.proofs.note_pair.Statement.{statement}
 use Rattle.psbt.proofs.note_pair.Tie as tie
-use Rattle.psbt.proofs.note_pair.Reads as reads
-use Rattle.psbt.proofs.note_pair.Lts as lts
-use Rattle.psbt.proofs.note_global.Reads as note-global-reads
-use Rattle.psbt.proofs.note_output.Reads as note-output-reads
 
 -- needs: needs, pairNotes
 pub note-pair-spec : {M : Type 1} → statement M

@@ -3,9 +3,6 @@ use borrow.Author.Needs.{needs}
 use Rattle.psbt.proofs.Parts.{notes}
 use Rattle.psbt.proofs.noted_there.Statement.{statement}
 use Rattle.psbt.proofs.noted_there.Tie as tie
-use Rattle.psbt.proofs.noted_there.Reads as reads
-use Rattle.psbt.proofs.noted_there.Lts as lts
-use Rattle.keys.proofs.is_bare.Reads as is-bare-reads
 
 -- needs: needs, notes
 pub noted-there-spec : {M : Type 1} → statement M

@@ -3,10 +3,6 @@ use borrow.Author.Needs.{needs}
 use Rattle.psbt.proofs.Parses.{parses}
 use Rattle.psbt.proofs.parse.Statement.{statement}
 use Rattle.psbt.proofs.parse.Tie as tie
-use Rattle.psbt.proofs.parse.Reads as reads
-use Rattle.psbt.proofs.parse.Lts as lts
-use Rattle.psbt.proofs.has_magic.Reads as has-magic-reads
-use Rattle.psbt.proofs.read_maps.Reads as read-maps-reads
 
 -- needs: needs, parses
 pub parse-spec : {M : Type 1} → statement M

@@ -3,10 +3,6 @@ use borrow.Author.Needs.{needs}
 use Rattle.psbt.proofs.Parts.{report}
 use Rattle.psbt.proofs.psbt_of.Statement.{statement}
 use Rattle.psbt.proofs.psbt_of.Tie as tie
-use Rattle.psbt.proofs.psbt_of.Reads as reads
-use Rattle.psbt.proofs.psbt_of.Lts as lts
-use Rattle.psbt.proofs.or_zero.Reads as or-zero-reads
-use Rattle.psbt.proofs.signed.Reads as signed-reads
 
 -- needs: needs, report
 pub psbt-of-spec : {M : Type 1} → statement M

@@ -5,15 +5,6 @@ use lib.ListN.{length}
 use Rattle.psbt.proofs.Loops.{AtMaps, InMap, loops, one-key, one-value, one-writes, one-more, exit-22, map-writes, exit-after, exit-done, maps-next}
 use Rattle.psbt.proofs.read_maps.Statement.{statement}
 use Rattle.psbt.proofs.read_maps.Tie as tie
-use Rattle.psbt.proofs.read_maps.Reads as reads
-use Rattle.psbt.proofs.read_maps.Lts as lts
-use Rattle.entries.proofs.has_map_room.Reads as has-map-room-reads
-use Rattle.entries.proofs.has_pair_room.Reads as has-pair-room-reads
-use Rattle.entries.proofs.write_map.Reads as write-map-reads
-use Rattle.entries.proofs.write_pair.Reads as write-pair-reads
-use Rattle.psbt.proofs.after_map.Reads as after-map-reads
-use Rattle.psbt.proofs.first_map.Reads as first-map-reads
-use Rattle.psbt.proofs.step_at.Reads as step-at-reads
 
 abbrev Inv-loop : tie.InvT-loop
 Inv-loop file pairs₀ maps w₀ at₀ p₀ m first la₀ le₀ pairs w at p la le = InMap file pairs₀ maps w₀ at₀ p₀ m first la₀ le₀ pairs w at p la le

@@ -3,8 +3,6 @@ use borrow.Author.Needs.{needs}
 use Rattle.psbt.proofs.Signs.{signs}
 use Rattle.psbt.proofs.signed.Statement.{statement}
 use Rattle.psbt.proofs.signed.Tie as tie
-use Rattle.psbt.proofs.signed.Reads as reads
-use Rattle.psbt.proofs.signed.Lts as lts
 
 -- needs: needs, signs
 pub signed-spec : {M : Type 1} → statement M

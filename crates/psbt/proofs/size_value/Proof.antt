@@ -3,8 +3,6 @@ use borrow.Author.Needs.{needs}
 use Rattle.psbt.proofs.Parts.{sizesOf}
 use Rattle.psbt.proofs.size_value.Statement.{statement}
 use Rattle.psbt.proofs.size_value.Tie as tie
-use Rattle.psbt.proofs.size_value.Reads as reads
-use Rattle.psbt.proofs.size_value.Lts as lts
 
 -- needs: needs, sizesOf
 pub size-value-spec : {M : Type 1} → statement M

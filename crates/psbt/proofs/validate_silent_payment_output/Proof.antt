@@ -3,9 +3,6 @@ use borrow.Author.Needs.{needs}
 use Rattle.psbt.proofs.Parts.{outputs}
 use Rattle.psbt.proofs.validate_silent_payment_output.Statement.{statement}
 use Rattle.psbt.proofs.validate_silent_payment_output.Tie as tie
-use Rattle.psbt.proofs.validate_silent_payment_output.Reads as reads
-use Rattle.psbt.proofs.validate_silent_payment_output.Lts as lts
-use Rattle.psbt.proofs.is_modifiable.Reads as is-modifiable-reads
 
 -- needs: needs, outputs
 pub validate-silent-payment-output-spec : {M : Type 1} → statement M

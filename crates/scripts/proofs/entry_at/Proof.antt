@@ -3,8 +3,6 @@ use borrow.Author.Needs.{needs}
 use Rattle.scripts.proofs.Tables.{entries}
 use Rattle.scripts.proofs.entry_at.Statement.{statement}
 use Rattle.scripts.proofs.entry_at.Tie as tie
-use Rattle.scripts.proofs.entry_at.Reads as reads
-use Rattle.scripts.proofs.entry_at.Lts as lts
 
 -- needs: needs, entries
 pub entry-at-spec : {M : Type 1} → statement M

@@ -3,10 +3,6 @@ use borrow.Author.Needs.{needs}
 use Rattle.scripts.proofs.Tables.{fits}
 use Rattle.scripts.proofs.entry_fits.Statement.{statement}
 use Rattle.scripts.proofs.entry_fits.Tie as tie
-use Rattle.scripts.proofs.entry_fits.Reads as reads
-use Rattle.scripts.proofs.entry_fits.Lts as lts
-use Rattle.scripts.proofs.is_blank.Reads as is-blank-reads
-use Rattle.scripts.proofs.is_filled.Reads as is-filled-reads
 
 -- needs: needs, fits
 pub entry-fits-spec : {M : Type 1} → statement M

@@ -4,9 +4,6 @@ use Rattle.format.specs.Keys.{isSame}
 use Rattle.scripts.proofs.Tables.{blank-by}
 use Rattle.scripts.proofs.is_blank.Statement.{statement}
 use Rattle.scripts.proofs.is_blank.Tie as tie
-use Rattle.scripts.proofs.is_blank.Reads as reads
-use Rattle.scripts.proofs.is_blank.Lts as lts
-use Rattle.keys.proofs.compare.Reads as compare-reads
 
 -- needs: needs, blank-by | isSame
 pub is-blank-spec : {M : Type 1} → statement M

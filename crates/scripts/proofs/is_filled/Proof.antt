@@ -3,9 +3,6 @@ use borrow.Author.Needs.{needs}
 use Rattle.scripts.proofs.Tables.{fills}
 use Rattle.scripts.proofs.is_filled.Statement.{statement}
 use Rattle.scripts.proofs.is_filled.Tie as tie
-use Rattle.scripts.proofs.is_filled.Reads as reads
-use Rattle.scripts.proofs.is_filled.Lts as lts
-use Rattle.scripts.proofs.is_taproot.Reads as is-taproot-reads
 
 -- needs: needs, fills
 pub is-filled-spec : {M : Type 1} → statement M

@@ -3,8 +3,6 @@ use borrow.Author.Needs.{needs}
 use Rattle.scripts.proofs.Tables.{taproots}
 use Rattle.scripts.proofs.is_taproot.Statement.{statement}
 use Rattle.scripts.proofs.is_taproot.Tie as tie
-use Rattle.scripts.proofs.is_taproot.Reads as reads
-use Rattle.scripts.proofs.is_taproot.Lts as lts
 
 -- needs: needs, taproots
 pub is-taproot-spec : {M : Type 1} → statement M

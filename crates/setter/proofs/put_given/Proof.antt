@@ -3,10 +3,6 @@ use borrow.Author.Needs.{needs}
 use Rattle.setter.proofs.Fills.{puts-given}
 use Rattle.setter.proofs.put_given.Statement.{statement}
 use Rattle.setter.proofs.put_given.Tie as tie
-use Rattle.setter.proofs.put_given.Reads as reads
-use Rattle.setter.proofs.put_given.Lts as lts
-use Rattle.setter.proofs.put_script.Reads as put-script-reads
-use Rattle.setter.proofs.script_in.Reads as script-in-reads
 
 -- needs: needs, puts-given
 pub put-given-spec : {M : Type 1} → statement M

@@ -1,6 +1,6 @@
 -- `tx_lines::answer_room` is safe and ends.
 use borrow.Author.Needs.{needs}
-use Rattle.answer_lines.proofs.Lays.{front-length}
+use Rattle.wire.proofs.Leads.{front-length}
 use Rattle.tx_lines.proofs.answer_room.Statement.{statement}
 use Rattle.tx_lines.proofs.answer_room.Tie as tie
 

@@ -1,6 +1,6 @@
 -- `tx_lines::put_given` is safe and ends.
 use borrow.Author.Needs.{needs}
-use Rattle.answer_lines.proofs.Lays.{front-length}
+use Rattle.wire.proofs.Leads.{front-length}
 use Rattle.tx_lines.proofs.put_given.Statement.{statement}
 use Rattle.tx_lines.proofs.put_given.Tie as tie
 

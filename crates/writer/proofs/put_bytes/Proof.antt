@@ -5,8 +5,6 @@ use lib.ListN.{length}
 use Rattle.writer.proofs.Puts.{Copying, copies}
 use Rattle.writer.proofs.put_bytes.Statement.{statement}
 use Rattle.writer.proofs.put_bytes.Tie as tie
-use Rattle.writer.proofs.put_bytes.Reads as reads
-use Rattle.writer.proofs.put_bytes.Lts as lts
 
 abbrev Inv-loop : tie.InvT-loop
 Inv-loop buf₀ at src j₀ buf j = Copying buf₀ at src buf j

@@ -4,8 +4,6 @@ use borrow.Author.Needs.{needs}
 use Rattle.writer.proofs.Puts.{Putting, puts}
 use Rattle.writer.proofs.put_le.Statement.{statement}
 use Rattle.writer.proofs.put_le.Tie as tie
-use Rattle.writer.proofs.put_le.Reads as reads
-use Rattle.writer.proofs.put_le.Lts as lts
 
 abbrev Inv-loop : tie.InvT-loop
 Inv-loop buf₀ at value width left₀ j₀ buf left j = Putting buf₀ at value width buf left j

@@ -3,9 +3,6 @@ use borrow.Author.Needs.{needs}
 use Rattle.writer.proofs.Puts.{tagged}
 use Rattle.writer.proofs.put_tagged.Statement.{statement}
 use Rattle.writer.proofs.put_tagged.Tie as tie
-use Rattle.writer.proofs.put_tagged.Reads as reads
-use Rattle.writer.proofs.put_tagged.Lts as lts
-use Rattle.writer.proofs.put_le.Reads as put-le-reads
 
 -- needs: needs, tagged
 pub put-tagged-spec : {M : Type 1} → statement M

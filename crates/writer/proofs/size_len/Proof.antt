@@ -3,8 +3,6 @@ use borrow.Author.Needs.{needs}
 use Rattle.writer.proofs.Puts.{sizes}
 use Rattle.writer.proofs.size_len.Statement.{statement}
 use Rattle.writer.proofs.size_len.Tie as tie
-use Rattle.writer.proofs.size_len.Reads as reads
-use Rattle.writer.proofs.size_len.Lts as lts
 
 -- needs: needs, sizes
 pub size-len-spec : {M : Type 1} → statement M

@@ -4,8 +4,6 @@ use Rattle.format.specs.Refusals.{numberOf}
 use Rattle.format.proofs.Refusals.{numbered}
 use Rattle.format.proofs.PsbtError.number.Statement.{statement}
 use Rattle.format.proofs.PsbtError.number.Tie as tie
-use Rattle.format.proofs.PsbtError.number.Reads as reads
-use Rattle.format.proofs.PsbtError.number.Lts as lts
 
 -- needs: needs, numbered | numberOf
 pub number-spec : {M : Type 1} → statement M
