@@ -25,12 +25,12 @@ use Rattle.format.proofs.Numbers.{All}
 use Rattle.laws.specs.Fine.{Rises, Keeps}
 use Rattle.laws.proofs.Items.{ItemIs, item-is}
 use Rattle.laws.proofs.Files.{pair-some}
-use Rattle.psbt.specs.Walks.{note, withGlobals, withSeen, atFirst, globalsRule, psbtFrom, closeGlobal, closeOutput, close, finishBy, finish, anInput, anOutput, start, afterBy, after}
+use Rattle.walk.specs.Walks.{note, withGlobals, withSeen, atFirst, globalsRule, psbtFrom, closeGlobal, closeOutput, close, finishBy, finish, anInput, anOutput, start, afterBy, after}
 use Rattle.psbt.specs.Leans.{Lean, done, refusal, begins, pair, ended, lean, cutLean, left, goOn, walkTurn, go, walk}
-use Rattle.psbt.specs.declared.Walk.{Walk}
-use Rattle.psbt.specs.declared.Next.{Next}
-use Rattle.psbt.specs.declared.Next.the-variants.{Stop, Done, Map as More}
-use Rattle.psbt.proofs.Notes.{noteAll, foundGlobals, foundSeen, global-noted, output-noted, input-noted, psbt-from, global-rule, seen-rule, inputs-counted, outputs-counted}
+use Rattle.walk.specs.declared.Walk.{Walk}
+use Rattle.walk.specs.declared.Next.{Next}
+use Rattle.walk.specs.declared.Next.the-variants.{Stop, Done, Map as More}
+use Rattle.walk.proofs.Notes.{noteAll, foundGlobals, foundSeen, global-noted, output-noted, input-noted, psbt-from, global-rule, seen-rule, inputs-counted, outputs-counted}
 
 pub cut-lean : (at p m i : ℕ) (P M : List ℕ) (r : Reading) → cut at p m i P M r ≡ cutLean at p m i P M (lean r)
 unfolding cut cutLean lean

@@ -13,9 +13,9 @@ use Rattle.parsed_map.specs.Fronts.{itemOf}
 use Rattle.parsed_map.specs.declared.Item.{Item}
 use Rattle.parsed_map.specs.declared.Item.the-variants as I
 use Rattle.parsed_map.proofs.Items.{over-in, one-in}
-use Rattle.psbt.specs.Walks.{note}
+use Rattle.walk.specs.Walks.{note}
 use Rattle.psbt.specs.Steps.{Places, stepBy, stepAt}
-use Rattle.psbt.specs.declared.Walk.{Walk}
+use Rattle.walk.specs.declared.Walk.{Walk}
 use Rattle.psbt.specs.declared.Step.the-variants.{Stop, Over, One}
 
 -- the limit fits the words of an entry: the one place where its number matters

@@ -1,3 +1,2 @@
-pub mod Walks
 pub mod Leans
 pub mod Steps

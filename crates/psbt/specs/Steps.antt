@@ -6,8 +6,8 @@ use Rattle.format.specs.Reading.{limit}
 use Rattle.parsed_map.specs.Fronts.{itemOf}
 use Rattle.parsed_map.specs.declared.Item.{Item}
 use Rattle.parsed_map.specs.declared.Item.the-variants as I
-use Rattle.psbt.specs.Walks.{note}
-use Rattle.psbt.specs.declared.Walk.{Walk}
+use Rattle.walk.specs.Walks.{note}
+use Rattle.walk.specs.declared.Walk.{Walk}
 use Rattle.psbt.specs.declared.Step.{Step}
 use Rattle.psbt.specs.declared.Step.the-variants.{Stop, Over, One}
 

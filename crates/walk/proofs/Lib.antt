@@ -1,0 +1,4 @@
+pub mod Notes
+pub mod Parts
+pub mod Signs
+pub mod Ends

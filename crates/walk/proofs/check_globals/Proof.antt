@@ -1,0 +1,15 @@
+-- `walk::check_globals` is the rule of the global map.
+use borrow.Author.Needs.{needs}
+use Rattle.walk.proofs.Parts.{globals}
+use Rattle.walk.proofs.check_globals.Statement.{statement}
+use Rattle.walk.proofs.check_globals.Tie as tie
+
+-- needs: needs, globals
+pub check-globals-spec : {M : Type 1} → statement M
+check-globals-spec =
+    tie.close
+    (tie.spec
+    (λ c κs. search (needs, globals))
+    (λ c κs. search (needs, globals))
+    (λ c. search (needs, globals))
+    (λ c. search (needs, globals)))

@@ -1,0 +1,14 @@
+-- `walk::check_version` takes version 2 alone.
+use borrow.Author.Needs.{needs}
+use Rattle.walk.proofs.Parts.{globals}
+use Rattle.walk.proofs.check_version.Statement.{statement}
+use Rattle.walk.proofs.check_version.Tie as tie
+
+-- needs: needs, globals
+pub check-version-spec : {M : Type 1} → statement M
+check-version-spec =
+    tie.close
+    (tie.spec
+    (λ c κs. search (needs, globals))
+    (λ c. search (needs, globals))
+    (λ c. search (needs, globals)))

@@ -1,0 +1,15 @@
+-- `walk::note_output` notes each field of an output.
+use borrow.Author.Needs.{needs}
+use Rattle.walk.proofs.Parts.{note-seen}
+use Rattle.walk.proofs.note_output.Statement.{statement}
+use Rattle.walk.proofs.note_output.Tie as tie
+
+-- needs: needs, note-seen
+pub note-output-spec : {M : Type 1} → statement M
+note-output-spec =
+    tie.close
+    (tie.spec
+    (λ c κs. search (needs, note-seen))
+    (λ c κs. search (needs, note-seen))
+    (λ c κs. search (needs, note-seen))
+    (λ c. search (needs, note-seen)))
