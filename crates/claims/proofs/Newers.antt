@@ -13,8 +13,8 @@ use Rattle.format.specs.Reading.{limit, accepted, reading}
 use Rattle.format.specs.declared.Order.the-variants.{Below}
 use Rattle.format.proofs.Numbers.{All}
 use Rattle.format.proofs.Compact.{Spells}
-use Rattle.format.proofs.Keys.{order-trans}
 use Rattle.laws.specs.Fine.{Framed, Rises, RisesFile, Keeps, FineMap, FineFile}
+use Rattle.laws.proofs.Rises.{rises-from}
 use Rattle.laws.proofs.Files.{reading-of, reading-is}
 use Rattle.fields.proofs.Free.{rule-free}
 use Rattle.claims.specs.Newer.{Added, nil, keep, add, AddedMap, AddedMaps, nils, maps, AddedFile, strike, strikeMap, struck, asks, Alike}
@@ -33,10 +33,6 @@ all-strike : (P : Pair → Type 0) (k : ℕ) (ps : List Pair) → All P ps → A
 unfolding strike only
 all-strike P k [] a = tt
 all-strike P k (p ∷ ps) a = all-keep P (listed k (p .key)) p (strike k ps) (a .0) (all-strike P k ps (a .1))
-
-rises-from : (a b : List ℕ) (ps : List Pair) → order a b ≡ Below → Rises b ps → Rises a ps
-rises-from a b [] o h = tt
-rises-from a b (p ∷ ps) o h = (order-trans a b (p .key) o (h .0), h .1)
 
 rises-keep : (last : List ℕ) (t : Bool) (p : Pair) (ps : List Pair) → order last (p .key) ≡ Below → Rises (p .key) ps → Rises last (keepIf t p ps)
 rises-keep last true p ps o h = (o, h)

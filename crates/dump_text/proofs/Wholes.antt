@@ -3,7 +3,7 @@ use mathlib.Core.Path.{_≡_, refl, sym, _∙_, ap}
 use mathlib.Core.List.{List, []}
 use Prim.Native.Nat.{ℕ, _≤_, _<_}
 use borrow.Author.Tests.{lt-ltb, le-ltb}
-use lib.ListN.{length, replicate, length-replicate}
+use lib.ListN.{length, replicate}
 use Rattle.format.specs.Tables.{View, view, mapsReported}
 use Rattle.format.specs.Parse.{out, parsed}
 use Rattle.format.specs.Transaction.{TxOut, txOut, unsignedTx}
@@ -44,10 +44,7 @@ module _ (s t : Spot) (f P M B P′ M′ : List ℕ) (r : Parsed) (e : toldWith 
 
 pub ruleset by-parse = (parsed-refused, parsed-accepted)
 
--- rooms: told by lemmas, since counting out a large one would take too deep a computation
-pub room : (n : ℕ) → n ≡ length (replicate {A = ℕ} n 0)
-room n = sym (length-replicate n 0)
-
+-- a room is zeros
 pub room-is : (n : ℕ) → replicate n 0 ≡ zeros n
 unfolding zeros
 room-is n = refl

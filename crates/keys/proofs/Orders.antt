@@ -50,14 +50,14 @@ pub ruleset orders = (on-front, is-same, is-prefix, is-longer, is-below, is-abov
 
 -- and from the first byte on
 module _ (a b : List ℕ) where
-  pub first-longer : (length a ≡ 0 → ⊥) → length b ≡ 0 → Above ≡ order a b
-  first-longer h k = is-longer a b 0 refl (omega arith) (omega arith)
+  pub first-none : (length b ≡ 0 → ⊥) → length a ≡ 0 → Below ≡ order a b
+  first-none k h = is-prefix a b 0 refl (omega arith) (omega arith)
 
-  module _ (h : length a ≡ 0 → ⊥) (k : length b ≡ 0 → ⊥) where
+  module _ (k : length b ≡ 0 → ⊥) (h : length a ≡ 0 → ⊥) where
     pub first-below : getD a 0 0 < getD b 0 0 → Below ≡ order a b
     first-below l = is-below a b 0 refl (omega arith) (omega arith) l
 
     pub first-above : getD b 0 0 < getD a 0 0 → Above ≡ order a b
     first-above l = is-above a b 0 refl (omega arith) (omega arith) l
 
-pub ruleset firsts = (first-longer, first-below, first-above)
+pub ruleset firsts = (first-none, first-below, first-above)

@@ -86,11 +86,11 @@ fn compare_blocks(a: &[u8], b: &[u8]) -> Order
 pub fn compare(a: &[u8], b: &[u8]) -> Order
     ensures { λ r. ⌜ r ≡ order (now (a .entry)) (now (b .entry)) ⌝ }
 {
-    if a.len() == 0 {
+    if b.len() == 0 {
         return compare_blocks(a, b);
     }
-    if b.len() == 0 {
-        return Order::Above;
+    if a.len() == 0 {
+        return Order::Below;
     }
     if a[0] < b[0] {
         return Order::Below;

@@ -7,3 +7,4 @@ pub mod Shown
 pub mod Given
 pub mod Listings
 pub mod Found
+pub mod Rises

@@ -11,21 +11,21 @@ use lib.Seq.{take-all}
 use Rattle.format.specs.Tests.{pick}
 use Rattle.format.specs.Numbers.{le}
 use Rattle.format.specs.Compact.{size, countBy, count}
-use Rattle.format.specs.Keys.{typeOf, dataOf, keyOf, order, same, isSame}
+use Rattle.format.specs.Keys.{typeOf, dataOf, keyOf, same, isSame}
 use Rattle.format.specs.Rules.{GLOBAL, INPUT, OUTPUT, valueFits, isRow, rowRule, sizesIn, sizes, countRule, bareRule, andThen, rule}
 use Rattle.format.specs.Content.{Pair, Found, absent, found, find, field, present, number, maybe, sizeValue, counted, psbtOf, globalRule, modifiable, outputRule}
 use Rattle.format.specs.Locks.{orZero}
 use Rattle.format.specs.declared.PsbtError.the-variants.{BadValue}
 use Rattle.format.specs.declared.Size.{Size}
 use Rattle.format.specs.declared.Size.the-variants.{Bad, Read}
-use Rattle.format.specs.declared.Order.the-variants.{Below}
 use Rattle.format.specs.declared.Ruled.{Ruled}
 use Rattle.format.specs.declared.Ruled.the-variants.{Passed, Refused}
 use Rattle.format.specs.declared.Maybe.the-variants.{Absent, Present}
 use Rattle.format.proofs.Tests.{pick-by}
-use Rattle.format.proofs.Keys.{order-trans, same-is}
+use Rattle.format.proofs.Keys.{same-is}
 use Rattle.format.proofs.Numbers.{All}
 use Rattle.laws.specs.Fine.{Rises, Keeps}
+use Rattle.laws.proofs.Rises.{rises-from}
 use Rattle.wire.specs.Leads.{lead}
 use Rattle.wire.proofs.Bounds.{count-read}
 use Rattle.walk.specs.Walks.{notedBy, asNumber, asCount, asThere, noted, notedCount, notedThere, noteGlobal, noteOutput, withGlobals, withSeen, note, noGlobals, unseen, there, allThere, versionRule, globalsRule, psbtFrom, flags, seenRule}
@@ -44,10 +44,6 @@ orOld read absent old = old
 orOld read (found v) old = read v
 
 -- keys that rise behind a key have not that key
-rises-from : (a b : List ℕ) (ps : List Pair) → order a b ≡ Below → Rises b ps → Rises a ps
-rises-from a b [] o h = tt
-rises-from a b (p ∷ ps) o h = (order-trans a b (p .key) o (h .0), h .1)
-
 absent-behind : (last : List ℕ) (ps : List Pair) → Rises last ps → find last ps ≡ absent
 unfolding find same isSame
 absent-behind last [] h = refl

@@ -1,5 +1,5 @@
 -- `answers::file_room` meets its contract.
-use Rattle.tx_lines.proofs.Rooms.{room}
+use Rattle.text.proofs.Rooms.{room}
 use Rattle.answers.proofs.file_room.Statement.{statement}
 use Rattle.answers.proofs.file_room.Tie as tie
 

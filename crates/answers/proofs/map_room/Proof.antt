@@ -1,5 +1,5 @@
 -- `answers::map_room` meets its contract.
-use Rattle.tx_lines.proofs.Rooms.{room}
+use Rattle.text.proofs.Rooms.{room}
 use Rattle.answers.proofs.map_room.Statement.{statement}
 use Rattle.answers.proofs.map_room.Tie as tie
 

@@ -1,5 +1,5 @@
 -- `answers::pair_room` meets its contract.
-use Rattle.tx_lines.proofs.Rooms.{room}
+use Rattle.text.proofs.Rooms.{room}
 use Rattle.answers.proofs.pair_room.Statement.{statement}
 use Rattle.answers.proofs.pair_room.Tie as tie
 

@@ -1,5 +1,5 @@
 -- `dump_text::file_room` meets its contract.
-use Rattle.dump_text.proofs.Wholes.{room}
+use Rattle.text.proofs.Rooms.{room}
 use Rattle.dump_text.proofs.file_room.Statement.{statement}
 use Rattle.dump_text.proofs.file_room.Tie as tie
 

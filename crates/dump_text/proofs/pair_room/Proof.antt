@@ -1,5 +1,6 @@
 -- `dump_text::pair_room` meets its contract.
-use Rattle.dump_text.proofs.Wholes.{room, room-is}
+use Rattle.text.proofs.Rooms.{room}
+use Rattle.dump_text.proofs.Wholes.{room-is}
 use Rattle.dump_text.proofs.pair_room.Statement.{statement}
 use Rattle.dump_text.proofs.pair_room.Tie as tie
 

@@ -1,5 +1,5 @@
 -- `tx_lines::buffer_room` meets its contract.
-use Rattle.tx_lines.proofs.Rooms.{room}
+use Rattle.text.proofs.Rooms.{room}
 use Rattle.tx_lines.proofs.buffer_room.Statement.{statement}
 use Rattle.tx_lines.proofs.buffer_room.Tie as tie
 
