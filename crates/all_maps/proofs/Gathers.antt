@@ -213,7 +213,3 @@ module _ (f P M : List ℕ) (s : Psbt) (k : AllFit f P M s) where
 
     pub output-usable : (m : MapEntry) → m ≡ mapAt M (1 + s .inputs + i) → Usable f P m
     output-usable m e = rw e (output-whole .usable)
-
-pub ruleset all-reports = (all-are, all-not, all-reported)
-
-pub ruleset map-entries = (input-listed, input-usable, output-listed, output-usable)

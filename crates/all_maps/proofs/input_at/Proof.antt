@@ -3,10 +3,6 @@ use borrow.Author.Needs.{needs}
 use Rattle.all_maps.proofs.Inputs.{Noting, notings}
 use Rattle.all_maps.proofs.input_at.Statement.{statement}
 use Rattle.all_maps.proofs.input_at.Tie as tie
-use Rattle.all_maps.proofs.input_at.Reads as reads
-use Rattle.all_maps.proofs.input_at.Lts as lts
-use Rattle.all_maps.proofs.note_input.Reads as note-input-reads
-use Rattle.entries.proofs.pair_entry.Reads as pair-entry-reads
 
 abbrev Inv-loop : tie.InvT-loop
 Inv-loop file pairs at₀ i₀ left₀ at i left = Noting file pairs i₀ left₀ at i left

@@ -3,11 +3,6 @@ use borrow.Author.Needs.{needs}
 use Rattle.all_maps.proofs.Inputs.{notes}
 use Rattle.all_maps.proofs.note_input.Statement.{statement}
 use Rattle.all_maps.proofs.note_input.Tie as tie
-use Rattle.all_maps.proofs.note_input.Reads as reads
-use Rattle.all_maps.proofs.note_input.Lts as lts
-use Rattle.all_maps.proofs.noted.Reads as noted-reads
-use Rattle.keys.proofs.is_bare.Reads as is-bare-reads
-use Rattle.lookup.proofs.key_in.Reads as key-in-reads
 
 -- needs: needs, notes
 pub note-input-spec : {M : Type 1} → statement M

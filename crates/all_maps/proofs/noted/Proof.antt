@@ -3,9 +3,6 @@ use borrow.Author.Needs.{needs}
 use Rattle.all_maps.proofs.Inputs.{noteds}
 use Rattle.all_maps.proofs.noted.Statement.{statement}
 use Rattle.all_maps.proofs.noted.Tie as tie
-use Rattle.all_maps.proofs.noted.Reads as reads
-use Rattle.all_maps.proofs.noted.Lts as lts
-use Rattle.all_maps.proofs.sized.Reads as sized-reads
 
 -- needs: needs, noteds
 pub noted-spec : {M : Type 1} → statement M

@@ -3,9 +3,6 @@ use borrow.Author.Needs.{needs}
 use Rattle.keys.proofs.Orders.{firsts}
 use Rattle.keys.proofs.compare.Statement.{statement}
 use Rattle.keys.proofs.compare.Tie as tie
-use Rattle.keys.proofs.compare.Reads as reads
-use Rattle.keys.proofs.compare.Lts as lts
-use Rattle.keys.proofs.compare_blocks.Reads as compare-blocks-reads
 
 -- needs: needs, firsts
 pub compare-spec : {M : Type 1} → statement M

@@ -5,10 +5,6 @@ use lib.ListN.{length}
 use Rattle.keys.proofs.Orders.{On, orders}
 use Rattle.keys.proofs.compare_blocks.Statement.{statement}
 use Rattle.keys.proofs.compare_blocks.Tie as tie
-use Rattle.keys.proofs.compare_blocks.Reads as reads
-use Rattle.keys.proofs.compare_blocks.Lts as lts
-use Rattle.keys.proofs.same_four.Reads as same-four-reads
-use Rattle.keys.proofs.same_front.Reads as same-front-reads
 
 abbrev Inv-loop : tie.InvT-loop
 Inv-loop a b i₀ i = On a b i

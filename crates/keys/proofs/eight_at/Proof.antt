@@ -3,9 +3,6 @@ use borrow.Author.Needs.{needs}
 use Rattle.keys.proofs.Blocks.{numbers}
 use Rattle.keys.proofs.eight_at.Statement.{statement}
 use Rattle.keys.proofs.eight_at.Tie as tie
-use Rattle.keys.proofs.eight_at.Reads as reads
-use Rattle.keys.proofs.eight_at.Lts as lts
-use Rattle.wire.proofs.u64_from_le_bytes.Reads as u64-from-le-bytes-reads
 
 -- needs: needs, numbers
 pub eight-at-spec : {M : Type 1} → statement M

@@ -3,9 +3,6 @@ use borrow.Author.Needs.{needs}
 use Rattle.keys.proofs.Blocks.{numbers}
 use Rattle.keys.proofs.four_at.Statement.{statement}
 use Rattle.keys.proofs.four_at.Tie as tie
-use Rattle.keys.proofs.four_at.Reads as reads
-use Rattle.keys.proofs.four_at.Lts as lts
-use Rattle.wire.proofs.u32_from_le_bytes.Reads as u32-from-le-bytes-reads
 
 -- needs: needs, numbers
 pub four-at-spec : {M : Type 1} → statement M

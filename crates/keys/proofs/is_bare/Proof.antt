@@ -3,8 +3,6 @@ use borrow.Author.Needs.{needs}
 use Rattle.keys.proofs.Bare.{bare}
 use Rattle.keys.proofs.is_bare.Statement.{statement}
 use Rattle.keys.proofs.is_bare.Tie as tie
-use Rattle.keys.proofs.is_bare.Reads as reads
-use Rattle.keys.proofs.is_bare.Lts as lts
 
 -- needs: needs, bare
 pub is-bare-spec : {M : Type 1} → statement M

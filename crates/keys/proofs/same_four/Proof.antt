@@ -3,9 +3,6 @@ use borrow.Author.Needs.{needs}
 use Rattle.keys.proofs.Blocks.{front-more, blocks}
 use Rattle.keys.proofs.same_four.Statement.{statement}
 use Rattle.keys.proofs.same_four.Tie as tie
-use Rattle.keys.proofs.same_four.Reads as reads
-use Rattle.keys.proofs.same_four.Lts as lts
-use Rattle.keys.proofs.four_at.Reads as four-at-reads
 
 returns-4 : tie.Need-returns-4
 returns-4 c =

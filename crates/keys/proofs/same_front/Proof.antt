@@ -6,9 +6,6 @@ use Rattle.keys.specs.Fronts.{Front}
 use Rattle.keys.proofs.Blocks.{front-more, blocks}
 use Rattle.keys.proofs.same_front.Statement.{statement}
 use Rattle.keys.proofs.same_front.Tie as tie
-use Rattle.keys.proofs.same_front.Reads as reads
-use Rattle.keys.proofs.same_front.Lts as lts
-use Rattle.keys.proofs.eight_at.Reads as eight-at-reads
 
 abbrev Inv-loop : tie.InvT-loop
 Inv-loop a b i₀ i = Front a b i

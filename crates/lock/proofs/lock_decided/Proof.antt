@@ -3,10 +3,6 @@ use borrow.Author.Needs.{needs}
 use Rattle.lock.proofs.Locks.{calls}
 use Rattle.lock.proofs.lock_decided.Statement.{statement}
 use Rattle.lock.proofs.lock_decided.Tie as tie
-use Rattle.lock.proofs.lock_decided.Reads as reads
-use Rattle.lock.proofs.lock_decided.Lts as lts
-use Rattle.all_maps.proofs.all_fit.Reads as all-fit-reads
-use Rattle.lock.proofs.lock_in.Reads as lock-in-reads
 
 -- needs: needs, calls
 pub lock-decided-spec : {M : Type 1} → statement M

@@ -3,8 +3,6 @@ use borrow.Author.Needs.{needs}
 use Rattle.unsigned_tx.proofs.Outputs.{caps}
 use Rattle.unsigned_tx.proofs.add_capped.Statement.{statement}
 use Rattle.unsigned_tx.proofs.add_capped.Tie as tie
-use Rattle.unsigned_tx.proofs.add_capped.Reads as reads
-use Rattle.unsigned_tx.proofs.add_capped.Lts as lts
 
 -- needs: needs, caps
 pub add-capped-spec : {M : Type 1} → statement M

@@ -3,10 +3,6 @@ use borrow.Author.Needs.{needs}
 use Rattle.unsigned_tx.proofs.Outputs.{fixes}
 use Rattle.unsigned_tx.proofs.fixed_len.Statement.{statement}
 use Rattle.unsigned_tx.proofs.fixed_len.Tie as tie
-use Rattle.unsigned_tx.proofs.fixed_len.Reads as reads
-use Rattle.unsigned_tx.proofs.fixed_len.Lts as lts
-use Rattle.unsigned_tx.proofs.add_capped.Reads as add-capped-reads
-use Rattle.writer.proofs.size_len.Reads as size-len-reads
 
 -- needs: needs, fixes
 pub fixed-len-spec : {M : Type 1} → statement M

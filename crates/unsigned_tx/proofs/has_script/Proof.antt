@@ -4,8 +4,6 @@ use Rattle.unsigned_tx.specs.Places.{hasScript}
 use Rattle.unsigned_tx.proofs.Outputs.{has-by}
 use Rattle.unsigned_tx.proofs.has_script.Statement.{statement}
 use Rattle.unsigned_tx.proofs.has_script.Tie as tie
-use Rattle.unsigned_tx.proofs.has_script.Reads as reads
-use Rattle.unsigned_tx.proofs.has_script.Lts as lts
 
 -- needs: needs, has-by | hasScript
 pub has-script-spec : {M : Type 1} → statement M

@@ -4,10 +4,6 @@ use borrow.Author.Needs.{needs}
 use Rattle.unsigned_tx.proofs.Inputs.{Judging, judges}
 use Rattle.unsigned_tx.proofs.inputs_ok.Statement.{statement}
 use Rattle.unsigned_tx.proofs.inputs_ok.Tie as tie
-use Rattle.unsigned_tx.proofs.inputs_ok.Reads as reads
-use Rattle.unsigned_tx.proofs.inputs_ok.Lts as lts
-use Rattle.entries.proofs.map_entry.Reads as map-entry-reads
-use Rattle.unsigned_tx.proofs.input_ok.Reads as input-ok-reads
 
 abbrev Inv-loop : tie.InvT-loop
 Inv-loop file pairs maps psbt i₀ i = Judging file pairs maps psbt i

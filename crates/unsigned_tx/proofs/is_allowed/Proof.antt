@@ -4,8 +4,6 @@ use Rattle.unsigned_tx.specs.Places.{allowedAt}
 use Rattle.unsigned_tx.proofs.Inputs.{allowed-by}
 use Rattle.unsigned_tx.proofs.is_allowed.Statement.{statement}
 use Rattle.unsigned_tx.proofs.is_allowed.Tie as tie
-use Rattle.unsigned_tx.proofs.is_allowed.Reads as reads
-use Rattle.unsigned_tx.proofs.is_allowed.Lts as lts
 
 -- needs: needs, allowed-by | allowedAt
 pub is-allowed-spec : {M : Type 1} → statement M

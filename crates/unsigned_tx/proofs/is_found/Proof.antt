@@ -4,8 +4,6 @@ use Rattle.unsigned_tx.specs.Places.{isFound}
 use Rattle.unsigned_tx.proofs.Finals.{found-by}
 use Rattle.unsigned_tx.proofs.is_found.Statement.{statement}
 use Rattle.unsigned_tx.proofs.is_found.Tie as tie
-use Rattle.unsigned_tx.proofs.is_found.Reads as reads
-use Rattle.unsigned_tx.proofs.is_found.Lts as lts
 
 -- needs: needs, found-by | isFound
 pub is-found-spec : {M : Type 1} → statement M

@@ -3,8 +3,6 @@ use borrow.Author.Needs.{needs}
 use Rattle.unsigned_tx.proofs.Outputs.{sets}
 use Rattle.unsigned_tx.proofs.is_set.Statement.{statement}
 use Rattle.unsigned_tx.proofs.is_set.Tie as tie
-use Rattle.unsigned_tx.proofs.is_set.Reads as reads
-use Rattle.unsigned_tx.proofs.is_set.Lts as lts
 
 -- needs: needs, sets
 pub is-set-spec : {M : Type 1} → statement M

@@ -4,8 +4,6 @@ use Rattle.unsigned_tx.specs.Places.{thereAt}
 use Rattle.unsigned_tx.proofs.Inputs.{there-by}
 use Rattle.unsigned_tx.proofs.is_there.Statement.{statement}
 use Rattle.unsigned_tx.proofs.is_there.Tie as tie
-use Rattle.unsigned_tx.proofs.is_there.Reads as reads
-use Rattle.unsigned_tx.proofs.is_there.Lts as lts
 
 -- needs: needs, there-by | thereAt
 pub is-there-spec : {M : Type 1} → statement M

@@ -3,10 +3,6 @@ use borrow.Author.Needs.{needs}
 use Rattle.unsigned_tx.proofs.Finals.{lockeds}
 use Rattle.unsigned_tx.proofs.locked_tx.Statement.{statement}
 use Rattle.unsigned_tx.proofs.locked_tx.Tie as tie
-use Rattle.unsigned_tx.proofs.locked_tx.Reads as reads
-use Rattle.unsigned_tx.proofs.locked_tx.Lts as lts
-use Rattle.unsigned_tx.proofs.put_tx.Reads as put-tx-reads
-use Rattle.unsigned_tx.proofs.tx_len.Reads as tx-len-reads
 
 -- needs: needs, lockeds
 pub locked-tx-spec : {M : Type 1} → statement M

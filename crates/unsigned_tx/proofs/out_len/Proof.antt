@@ -3,9 +3,6 @@ use borrow.Author.Needs.{needs}
 use Rattle.unsigned_tx.proofs.Outputs.{out-lens}
 use Rattle.unsigned_tx.proofs.out_len.Statement.{statement}
 use Rattle.unsigned_tx.proofs.out_len.Tie as tie
-use Rattle.unsigned_tx.proofs.out_len.Reads as reads
-use Rattle.unsigned_tx.proofs.out_len.Lts as lts
-use Rattle.writer.proofs.size_len.Reads as size-len-reads
 
 -- needs: needs, out-lens
 pub out-len-spec : {M : Type 1} → statement M

@@ -4,12 +4,6 @@ use borrow.Author.Needs.{needs}
 use Rattle.unsigned_tx.proofs.Outputs.{Measuring, measures, output-maps}
 use Rattle.unsigned_tx.proofs.outputs_len.Statement.{statement}
 use Rattle.unsigned_tx.proofs.outputs_len.Tie as tie
-use Rattle.unsigned_tx.proofs.outputs_len.Reads as reads
-use Rattle.unsigned_tx.proofs.outputs_len.Lts as lts
-use Rattle.entries.proofs.map_entry.Reads as map-entry-reads
-use Rattle.unsigned_tx.proofs.add_capped.Reads as add-capped-reads
-use Rattle.unsigned_tx.proofs.output_len.Reads as output-len-reads
-use Rattle.unsigned_tx.proofs.set_entry.Reads as set-entry-reads
 
 abbrev Inv-loop : tie.InvT-loop
 Inv-loop file pairs maps psbt state scripts first i₀ total₀ i total = Measuring file pairs maps psbt state scripts first i total

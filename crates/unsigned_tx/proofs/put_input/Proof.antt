@@ -3,12 +3,6 @@ use borrow.Author.Needs.{needs}
 use Rattle.unsigned_tx.proofs.Inputs.{input-fields}
 use Rattle.unsigned_tx.proofs.put_input.Statement.{statement}
 use Rattle.unsigned_tx.proofs.put_input.Tie as tie
-use Rattle.unsigned_tx.proofs.put_input.Reads as reads
-use Rattle.unsigned_tx.proofs.put_input.Lts as lts
-use Rattle.all_maps.proofs.input_at.Reads as input-at-reads
-use Rattle.unsigned_tx.proofs.put_at.Reads as put-at-reads
-use Rattle.unsigned_tx.proofs.put_sequence.Reads as put-sequence-reads
-use Rattle.writer.proofs.put_le.Reads as put-le-reads
 
 -- needs: needs, input-fields
 pub put-input-spec : {M : Type 1} → statement M

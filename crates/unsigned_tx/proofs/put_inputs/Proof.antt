@@ -4,10 +4,6 @@ use borrow.Author.Needs.{needs}
 use Rattle.unsigned_tx.proofs.Inputs.{Putting, puttings}
 use Rattle.unsigned_tx.proofs.put_inputs.Statement.{statement}
 use Rattle.unsigned_tx.proofs.put_inputs.Tie as tie
-use Rattle.unsigned_tx.proofs.put_inputs.Reads as reads
-use Rattle.unsigned_tx.proofs.put_inputs.Lts as lts
-use Rattle.entries.proofs.map_entry.Reads as map-entry-reads
-use Rattle.unsigned_tx.proofs.put_input.Reads as put-input-reads
 
 abbrev Inv-loop : tie.InvT-loop
 Inv-loop file pairs maps psbt out₀ at i₀ to₀ out i to = Putting file pairs maps psbt out₀ at out i to

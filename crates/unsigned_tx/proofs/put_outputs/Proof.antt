@@ -4,11 +4,6 @@ use borrow.Author.Needs.{needs}
 use Rattle.unsigned_tx.proofs.Outputs.{Putting, puttings, output-maps}
 use Rattle.unsigned_tx.proofs.put_outputs.Statement.{statement}
 use Rattle.unsigned_tx.proofs.put_outputs.Tie as tie
-use Rattle.unsigned_tx.proofs.put_outputs.Reads as reads
-use Rattle.unsigned_tx.proofs.put_outputs.Lts as lts
-use Rattle.entries.proofs.map_entry.Reads as map-entry-reads
-use Rattle.unsigned_tx.proofs.put_output.Reads as put-output-reads
-use Rattle.unsigned_tx.proofs.set_entry.Reads as set-entry-reads
 
 abbrev Inv-loop : tie.InvT-loop
 Inv-loop file pairs maps psbt state scripts out₀ at i₀ to₀ out i to = Putting file pairs maps psbt state scripts out₀ at out i to

@@ -3,12 +3,6 @@ use borrow.Author.Needs.{needs}
 use Rattle.unsigned_tx.proofs.Finals.{rest-lock, rest-is}
 use Rattle.unsigned_tx.proofs.put_rest.Statement.{statement}
 use Rattle.unsigned_tx.proofs.put_rest.Tie as tie
-use Rattle.unsigned_tx.proofs.put_rest.Reads as reads
-use Rattle.unsigned_tx.proofs.put_rest.Lts as lts
-use Rattle.unsigned_tx.proofs.put_outputs.Reads as put-outputs-reads
-use Rattle.writer.proofs.put_le.Reads as put-le-reads
-use Rattle.writer.proofs.put_size.Reads as put-size-reads
-use Rattle.writer.proofs.size_len.Reads as size-len-reads
 
 put-le-requires : tie.Need-put-le-requires
 put-le-requires c κs =

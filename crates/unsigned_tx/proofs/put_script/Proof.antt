@@ -3,10 +3,6 @@ use borrow.Author.Needs.{needs}
 use Rattle.unsigned_tx.proofs.Outputs.{script-puts}
 use Rattle.unsigned_tx.proofs.put_script.Statement.{statement}
 use Rattle.unsigned_tx.proofs.put_script.Tie as tie
-use Rattle.unsigned_tx.proofs.put_script.Reads as reads
-use Rattle.unsigned_tx.proofs.put_script.Lts as lts
-use Rattle.lookup.proofs.part_of.Reads as part-of-reads
-use Rattle.writer.proofs.put_bytes.Reads as put-bytes-reads
 
 -- needs: needs, script-puts
 pub put-script-spec : {M : Type 1} → statement M

@@ -3,10 +3,6 @@ use borrow.Author.Needs.{needs}
 use Rattle.unsigned_tx.proofs.Finals.{txs}
 use Rattle.unsigned_tx.proofs.put_tx.Statement.{statement}
 use Rattle.unsigned_tx.proofs.put_tx.Tie as tie
-use Rattle.unsigned_tx.proofs.put_tx.Reads as reads
-use Rattle.unsigned_tx.proofs.put_tx.Lts as lts
-use Rattle.unsigned_tx.proofs.put_front.Reads as put-front-reads
-use Rattle.unsigned_tx.proofs.put_rest.Reads as put-rest-reads
 
 -- needs: needs, txs
 pub put-tx-spec : {M : Type 1} → statement M

@@ -3,10 +3,6 @@ use borrow.Author.Needs.{needs}
 use Rattle.unsigned_tx.proofs.Finals.{version-is}
 use Rattle.unsigned_tx.proofs.put_version.Statement.{statement}
 use Rattle.unsigned_tx.proofs.put_version.Tie as tie
-use Rattle.unsigned_tx.proofs.put_version.Reads as reads
-use Rattle.unsigned_tx.proofs.put_version.Lts as lts
-use Rattle.writer.proofs.bits_of.Reads as bits-of-reads
-use Rattle.writer.proofs.put_le.Reads as put-le-reads
 
 -- needs: needs, version-is
 pub put-version-spec : {M : Type 1} → statement M

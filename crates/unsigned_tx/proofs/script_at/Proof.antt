@@ -3,10 +3,6 @@ use borrow.Author.Needs.{needs}
 use Rattle.unsigned_tx.proofs.Outputs.{scripts-at}
 use Rattle.unsigned_tx.proofs.script_at.Statement.{statement}
 use Rattle.unsigned_tx.proofs.script_at.Tie as tie
-use Rattle.unsigned_tx.proofs.script_at.Reads as reads
-use Rattle.unsigned_tx.proofs.script_at.Lts as lts
-use Rattle.all_maps.proofs.found_field.Reads as found-field-reads
-use Rattle.unsigned_tx.proofs.is_set.Reads as is-set-reads
 
 -- needs: needs, scripts-at
 pub script-at-spec : {M : Type 1} → statement M

@@ -3,9 +3,6 @@ use borrow.Author.Needs.{needs}
 use Rattle.unsigned_tx.proofs.Outputs.{script-lens}
 use Rattle.unsigned_tx.proofs.script_len.Statement.{statement}
 use Rattle.unsigned_tx.proofs.script_len.Tie as tie
-use Rattle.unsigned_tx.proofs.script_len.Reads as reads
-use Rattle.unsigned_tx.proofs.script_len.Lts as lts
-use Rattle.lookup.proofs.part_of.Reads as part-of-reads
 
 -- needs: needs, script-lens
 pub script-len-spec : {M : Type 1} → statement M

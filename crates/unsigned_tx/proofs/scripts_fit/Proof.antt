@@ -5,13 +5,6 @@ use Rattle.unsigned_tx.proofs.Outputs.{output-maps}
 use Rattle.unsigned_tx.proofs.Finals.{Judging, judges}
 use Rattle.unsigned_tx.proofs.scripts_fit.Statement.{statement}
 use Rattle.unsigned_tx.proofs.scripts_fit.Tie as tie
-use Rattle.unsigned_tx.proofs.scripts_fit.Reads as reads
-use Rattle.unsigned_tx.proofs.scripts_fit.Lts as lts
-use Rattle.all_maps.proofs.found_field.Reads as found-field-reads
-use Rattle.entries.proofs.map_entry.Reads as map-entry-reads
-use Rattle.scripts.proofs.entry_at.Reads as entry-at-reads
-use Rattle.scripts.proofs.entry_fits.Reads as entry-fits-reads
-use Rattle.unsigned_tx.proofs.is_found.Reads as is-found-reads
 
 abbrev Inv-loop : tie.InvT-loop
 Inv-loop file pairs maps psbt scripts i₀ i = Judging file pairs maps psbt scripts i

@@ -3,9 +3,6 @@ use borrow.Author.Needs.{needs}
 use Rattle.unsigned_tx.proofs.Outputs.{entries-set}
 use Rattle.unsigned_tx.proofs.set_entry.Statement.{statement}
 use Rattle.unsigned_tx.proofs.set_entry.Tie as tie
-use Rattle.unsigned_tx.proofs.set_entry.Reads as reads
-use Rattle.unsigned_tx.proofs.set_entry.Lts as lts
-use Rattle.scripts.proofs.entry_at.Reads as entry-at-reads
 
 -- needs: needs, entries-set
 pub set-entry-spec : {M : Type 1} → statement M

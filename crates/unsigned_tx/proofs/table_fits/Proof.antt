@@ -3,9 +3,6 @@ use borrow.Author.Needs.{needs}
 use Rattle.unsigned_tx.proofs.Finals.{tables}
 use Rattle.unsigned_tx.proofs.table_fits.Statement.{statement}
 use Rattle.unsigned_tx.proofs.table_fits.Tie as tie
-use Rattle.unsigned_tx.proofs.table_fits.Reads as reads
-use Rattle.unsigned_tx.proofs.table_fits.Lts as lts
-use Rattle.unsigned_tx.proofs.scripts_fit.Reads as scripts-fit-reads
 
 -- needs: needs, tables
 pub table-fits-spec : {M : Type 1} → statement M

@@ -3,11 +3,6 @@ use borrow.Author.Needs.{needs}
 use Rattle.unsigned_tx.proofs.Finals.{tx-lens}
 use Rattle.unsigned_tx.proofs.tx_len.Statement.{statement}
 use Rattle.unsigned_tx.proofs.tx_len.Tie as tie
-use Rattle.unsigned_tx.proofs.tx_len.Reads as reads
-use Rattle.unsigned_tx.proofs.tx_len.Lts as lts
-use Rattle.unsigned_tx.proofs.fixed_len.Reads as fixed-len-reads
-use Rattle.unsigned_tx.proofs.inputs_ok.Reads as inputs-ok-reads
-use Rattle.unsigned_tx.proofs.outputs_len.Reads as outputs-len-reads
 
 -- needs: needs, tx-lens
 pub tx-len-spec : {M : Type 1} → statement M

@@ -3,10 +3,6 @@ use borrow.Author.Needs.{needs}
 use Rattle.unsigned_tx.proofs.Finals.{public}
 use Rattle.unsigned_tx.proofs.unsigned_tx.Statement.{statement}
 use Rattle.unsigned_tx.proofs.unsigned_tx.Tie as tie
-use Rattle.unsigned_tx.proofs.unsigned_tx.Reads as reads
-use Rattle.unsigned_tx.proofs.unsigned_tx.Lts as lts
-use Rattle.all_maps.proofs.all_fit.Reads as all-fit-reads
-use Rattle.unsigned_tx.proofs.fit_tx.Reads as fit-tx-reads
 
 -- needs: needs, public
 pub unsigned-tx-spec : {M : Type 1} → statement M

@@ -3,9 +3,6 @@ use borrow.Author.Needs.{needs}
 use Rattle.wire.proofs.Sizes.{counts-by}
 use Rattle.wire.proofs.count_of.Statement.{statement}
 use Rattle.wire.proofs.count_of.Tie as tie
-use Rattle.wire.proofs.count_of.Reads as reads
-use Rattle.wire.proofs.count_of.Lts as lts
-use Rattle.wire.proofs.read_size.Reads as read-size-reads
 
 -- needs: needs, counts-by
 pub count-of-spec : {M : Type 1} → statement M

@@ -8,9 +8,6 @@ use Rattle.wire.proofs.Bytes.{bytes}
 use Rattle.wire.proofs.Leads.{les}
 use Rattle.wire.proofs.le.Statement.{statement}
 use Rattle.wire.proofs.le.Tie as tie
-use Rattle.wire.proofs.le.Reads as reads
-use Rattle.wire.proofs.le.Lts as lts
-use Rattle.wire.proofs.wide.Reads as wide-reads
 
 abbrev Inv-loop : tie.InvT-loop
 Inv-loop s n v₀ i₀ v i = (n ≡ length s) × (i ≤ n) × (v ≡ le (drop (n - i) s))

@@ -3,9 +3,6 @@ use borrow.Author.Needs.{needs}
 use Rattle.wire.proofs.Leads.{leads}
 use Rattle.wire.proofs.lead.Statement.{statement}
 use Rattle.wire.proofs.lead.Tie as tie
-use Rattle.wire.proofs.lead.Reads as reads
-use Rattle.wire.proofs.lead.Lts as lts
-use Rattle.wire.proofs.le.Reads as le-reads
 
 -- needs: needs, leads
 pub lead-spec : {M : Type 1} → statement M

@@ -4,11 +4,6 @@ use Rattle.wire.proofs.Bytes.{bytes}
 use Rattle.wire.proofs.Sizes.{longs}
 use Rattle.wire.proofs.read_long.Statement.{statement}
 use Rattle.wire.proofs.read_long.Tie as tie
-use Rattle.wire.proofs.read_long.Reads as reads
-use Rattle.wire.proofs.read_long.Lts as lts
-use Rattle.wire.proofs.lead.Reads as lead-reads
-use Rattle.wire.proofs.spelled.Reads as spelled-reads
-use Rattle.wire.proofs.width.Reads as width-reads
 
 -- needs: needs, bytes, longs
 pub read-long-spec : {M : Type 1} → statement M

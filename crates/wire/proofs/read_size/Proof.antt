@@ -4,9 +4,6 @@ use Rattle.wire.proofs.Bytes.{bytes}
 use Rattle.wire.proofs.Sizes.{sizes}
 use Rattle.wire.proofs.read_size.Statement.{statement}
 use Rattle.wire.proofs.read_size.Tie as tie
-use Rattle.wire.proofs.read_size.Reads as reads
-use Rattle.wire.proofs.read_size.Lts as lts
-use Rattle.wire.proofs.read_long.Reads as read-long-reads
 
 -- needs: needs, bytes, sizes
 pub read-size-spec : {M : Type 1} → statement M

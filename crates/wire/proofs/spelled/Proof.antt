@@ -4,8 +4,6 @@ use Rattle.format.proofs.Tests.{tests}
 use Rattle.wire.specs.Leads.{spelled}
 use Rattle.wire.proofs.spelled.Statement.{statement}
 use Rattle.wire.proofs.spelled.Tie as tie
-use Rattle.wire.proofs.spelled.Reads as reads
-use Rattle.wire.proofs.spelled.Lts as lts
 
 -- needs: needs, tests | spelled
 pub spelled-spec : {M : Type 1} → statement M

@@ -3,9 +3,6 @@ use borrow.Author.Needs.{needs}
 use Rattle.wire.proofs.Leads.{leads}
 use Rattle.wire.proofs.u32_from_le_bytes.Statement.{statement}
 use Rattle.wire.proofs.u32_from_le_bytes.Tie as tie
-use Rattle.wire.proofs.u32_from_le_bytes.Reads as reads
-use Rattle.wire.proofs.u32_from_le_bytes.Lts as lts
-use Rattle.wire.proofs.lead.Reads as lead-reads
 
 -- needs: needs, leads
 pub u32-from-le-bytes-spec : {M : Type 1} → statement M

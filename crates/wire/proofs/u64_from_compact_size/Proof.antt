@@ -3,9 +3,6 @@ use borrow.Author.Needs.{needs}
 use Rattle.format.specs.Compact.{count}
 use Rattle.wire.proofs.u64_from_compact_size.Statement.{statement}
 use Rattle.wire.proofs.u64_from_compact_size.Tie as tie
-use Rattle.wire.proofs.u64_from_compact_size.Reads as reads
-use Rattle.wire.proofs.u64_from_compact_size.Lts as lts
-use Rattle.wire.proofs.count_of.Reads as count-of-reads
 
 -- needs: needs | count
 pub u64-from-compact-size-spec : {M : Type 1} → statement M

@@ -3,8 +3,6 @@ use borrow.Author.Needs.{needs}
 use Rattle.wire.proofs.Sizes.{widths}
 use Rattle.wire.proofs.width.Statement.{statement}
 use Rattle.wire.proofs.width.Tie as tie
-use Rattle.wire.proofs.width.Reads as reads
-use Rattle.wire.proofs.width.Lts as lts
 
 -- needs: needs, widths
 pub width-spec : {M : Type 1} → statement M

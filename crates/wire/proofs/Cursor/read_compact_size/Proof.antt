@@ -3,10 +3,6 @@ use borrow.Author.Needs.{needs}
 use Rattle.wire.proofs.Cursors.{ats}
 use Rattle.wire.proofs.Cursor.read_compact_size.Statement.{statement}
 use Rattle.wire.proofs.Cursor.read_compact_size.Tie as tie
-use Rattle.wire.proofs.Cursor.read_compact_size.Reads as reads
-use Rattle.wire.proofs.Cursor.read_compact_size.Lts as lts
-use Rattle.wire.proofs.Cursor.new.Reads as new-reads
-use Rattle.wire.proofs.read_size.Reads as read-size-reads
 
 -- needs: needs, ats
 pub read-compact-size-spec : {M : Type 1} → statement M

@@ -3,10 +3,6 @@ use borrow.Author.Needs.{needs}
 use Rattle.wire.proofs.Cursors.{prefixes}
 use Rattle.wire.proofs.Cursor.read_len_prefixed.Statement.{statement}
 use Rattle.wire.proofs.Cursor.read_len_prefixed.Tie as tie
-use Rattle.wire.proofs.Cursor.read_len_prefixed.Reads as reads
-use Rattle.wire.proofs.Cursor.read_len_prefixed.Lts as lts
-use Rattle.wire.proofs.Cursor.read_compact_size.Reads as read-compact-size-reads
-use Rattle.wire.proofs.Cursor.take.Reads as take-reads
 
 -- needs: needs, prefixes
 pub read-len-prefixed-spec : {M : Type 1} → statement M

@@ -3,8 +3,6 @@ use borrow.Author.Needs.{needs}
 use Rattle.wire.proofs.Cursors.{lefts}
 use Rattle.wire.proofs.Cursor.remaining.Statement.{statement}
 use Rattle.wire.proofs.Cursor.remaining.Tie as tie
-use Rattle.wire.proofs.Cursor.remaining.Reads as reads
-use Rattle.wire.proofs.Cursor.remaining.Lts as lts
 
 -- needs: needs, lefts
 pub remaining-spec : {M : Type 1} → statement M

@@ -3,10 +3,6 @@ use borrow.Author.Needs.{needs}
 use Rattle.wire.proofs.Cursors.{takes}
 use Rattle.wire.proofs.Cursor.take.Statement.{statement}
 use Rattle.wire.proofs.Cursor.take.Tie as tie
-use Rattle.wire.proofs.Cursor.take.Reads as reads
-use Rattle.wire.proofs.Cursor.take.Lts as lts
-use Rattle.wire.proofs.Cursor.new.Reads as new-reads
-use Rattle.wire.proofs.Cursor.remaining.Reads as remaining-reads
 
 -- needs: needs, takes
 pub take-spec : {M : Type 1} → statement M
