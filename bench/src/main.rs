@@ -56,7 +56,7 @@ fn best(most: usize, mut theirs: impl FnMut(usize) -> f64, mut ours: impl FnMut(
 fn line(what: &str, name: &str, bytes: usize, (theirs, ours): (f64, f64)) {
     // Megabytes of the file in a second, where the call reads the file.
     let rate = |ns: f64| match what {
-        "parse" | "whole" => format!("{:.0}", bytes as f64 * 1000.0 / ns),
+        "parse" | "both" | "whole" => format!("{:.0}", bytes as f64 * 1000.0 / ns),
         _ => "-".to_string(),
     };
     println!(
@@ -141,6 +141,23 @@ fn transaction(name: &str, file: &[u8], room: &mut Room) {
     line("transaction", name, file.len(), best(batch(file), theirs, ours));
 }
 
+/// From the file to its transaction. The original reads the fields in its parse, ours where the transaction is asked for, so neither half compares alone.
+fn to_transaction(name: &str, file: &[u8], room: &mut Room) {
+    let theirs = |n| {
+        timed(n, || {
+            let parsed = Original::parse(black_box(file)).unwrap();
+            black_box(parsed.unsigned_tx().unwrap());
+        })
+    };
+    let ours = |n| {
+        timed(n, || {
+            let psbt = Psbt::parse(black_box(file), &mut room.pairs, &mut room.maps).unwrap();
+            black_box(psbt.unsigned_tx(State::default(), &[], &mut room.out).unwrap());
+        })
+    };
+    line("both", name, file.len(), best(ANY, theirs, ours));
+}
+
 /// Parse, the fields of each input, then the transaction: what a terminal does with a file.
 fn whole(name: &str, file: &[u8], room: &mut Room) {
     let theirs = |n| {
@@ -194,7 +211,7 @@ fn main() {
         "", "file", "bytes", "original ns", "ours ns", "MB/s", "MB/s", "ratio"
     );
     let files = files::all();
-    for measure in [parse, lookup, fields, transaction, whole] {
+    for measure in [parse, lookup, fields, transaction, to_transaction, whole] {
         for (name, file) in &files {
             measure(name, file, &mut room);
         }
