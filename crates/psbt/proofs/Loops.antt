@@ -30,7 +30,7 @@ use Rattle.parsed_map.proofs.Items.{over-in, over-length, one-in, width-is, ent
 use Rattle.parsed_map.proofs.Twins.{twin}
 use Rattle.entries.specs.Words.{PairFits, MapFits}
 use Rattle.format.proofs.Entries.{length-putPair, length-putMap}
-use Rattle.walk.specs.Walks.{atFirst, after}
+use Rattle.walk.specs.Walks.{note, atFirst, after}
 use Rattle.psbt.specs.Leans.{begins, cutLean, left, goOn, walkTurn, walk, mapsRead}
 use Rattle.psbt.specs.Steps.{Places, InLimit, stepBy, stepAt}
 use Rattle.walk.specs.declared.Walk.{Walk}
@@ -41,7 +41,7 @@ use Rattle.walk.specs.declared.Next.the-variants as N
 use Rattle.psbt.proofs.Leans.{walk-turn}
 use Rattle.psbt.proofs.Steps.{limit-fits}
 
--- the last key
+-- the bytes from la up to le
 abbrev pub keyAt : List ℕ → ℕ → ℕ → List ℕ
 keyAt F la le = take (le - la) (drop la F)
 
@@ -52,16 +52,20 @@ atMap F P M w at p m = cutLean at p m p P M (begins (walk w [] (drop at F)))
 abbrev pub inMap : List ℕ → List ℕ → List ℕ → ℕ → Walk → ℕ → ℕ → ℕ → ℕ → ℕ → ParseOut
 inMap F P M m w at p la le i = cutLean at p m i P M (walk w (keyAt F la le) (drop at F))
 
+-- what is carried on behind the pair of an entry
+abbrev pub notedAt : List ℕ → Walk → PairEntry → Walk
+notedAt F w e = note (keyAt F (e .key) (e .key + e .klen)) (keyAt F (e .value) (e .value + e .vlen)) w
+
 -- by a step
 unfoldable pub stepCut : List ℕ → List ℕ → List ℕ → ℕ → Walk → ℕ → ℕ → Step → ParseOut
 stepCut F P M m w p i (Stop e) = out (A.Refused e p m) P M
 stepCut F P M m w p i (Over to) = cutLean to p (m + 1) p P (putMap M m (record { first = i; count = p - i })) (goOn walk (drop to F) (after w (left (drop to F))))
-stepCut F P M m w p i (One e v) =
-    pick (hasRoom pairWords p P) (inMap F (putPair P p e) M m v (e .value + e .vlen) (p + 1) (e .key) (e .key + e .klen) i) (out (A.Refused PairsFull p m) P M)
+stepCut F P M m w p i (One e) =
+    pick (hasRoom pairWords p P) (inMap F (putPair P p e) M m (notedAt F w e) (e .value + e .vlen) (p + 1) (e .key) (e .key + e .klen) i) (out (A.Refused PairsFull p m) P M)
 
 -- a step is what the walk does
 module _ (F P M : List ℕ) (m : ℕ) (w : Walk) (at p i : ℕ) (last : List ℕ) where
-  by-item : (z : Item) → z ≡ itemOf (w .kind) last (drop at F) → cutLean at p m i P M (walkTurn walk w (shown (drop at F) z)) ≡ stepCut F P M m w p i (stepBy (drop at F) at w z)
+  by-item : (z : Item) → z ≡ itemOf (w .kind) last (drop at F) → cutLean at p m i P M (walkTurn walk w (shown (drop at F) z)) ≡ stepCut F P M m w p i (stepBy at z)
   unfolding walkTurn shown stepBy stepCut cutLean
   by-item (I.Stop e) h = refl
   by-item (I.Over u) h =
@@ -71,9 +75,9 @@ module _ (F P M : List ℕ) (m : ℕ) (w : Walk) (at p i : ℕ) (last : List ℕ
       let n = one-in (w .kind) last (drop at F) (I.One a l b v) h a l b v refl in
       let s : at + (b + v) ≡ at + b + v = omega arith in
       ap (λ (x : ParseOut). pick (hasRoom pairWords p P) x (out (A.Refused PairsFull p m) P M))
-      (rw (width-is (drop at F) a l b v n, entry-is (drop at F) a l b v n at, drop-drop (b + v) at F, s, add-sub-cancel-left (at + a) l, ← drop-drop a at F) (unfold pairAt in refl))
+      (rw (width-is (drop at F) a l b v n, entry-is (drop at F) a l b v n at, drop-drop (b + v) at F, s, add-sub-cancel-left (at + a) l, add-sub-cancel-left (at + b) v, ← drop-drop a at F, ← drop-drop b at F) (unfold pairAt in refl))
 
-  pub turned : cutLean at p m i P M (walk w last (drop at F)) ≡ stepCut F P M m w p i (stepAt (drop at F) last at w)
+  pub turned : cutLean at p m i P M (walk w last (drop at F)) ≡ stepCut F P M m w p i (stepAt (drop at F) last at (w .kind))
   unfolding stepAt
   turned =
       ap (cutLean at p m i P M) (walk-turn w last (drop at F) ∙ ap (walkTurn walk w) (sym (twin (w .kind) last (drop at F))))
@@ -140,23 +144,23 @@ pub record OneAt (F : List ℕ) (at : ℕ) (e : PairEntry) : Type 0 where
 abbrev StepIn : List ℕ → ℕ → Step → Type 0
 StepIn F at (Stop e) = Unit {0}
 StepIn F at (Over to) = (at < to) × (to ≤ length F)
-StepIn F at (One e v) = OneAt F at e
+StepIn F at (One e) = OneAt F at e
 
-by-in : (F : List ℕ) (at : ℕ) (w : Walk) (last : List ℕ) → at ≤ length F → (z : Item) → z ≡ itemOf (w .kind) last (drop at F) → StepIn F at (stepBy (drop at F) at w z)
+by-in : (F : List ℕ) (at k : ℕ) (last : List ℕ) → at ≤ length F → (z : Item) → z ≡ itemOf k last (drop at F) → StepIn F at (stepBy at z)
 unfolding stepBy
-by-in F at w last h (I.Stop e) q = tt
-by-in F at w last h (I.Over u) q =
-    let x = over-in (w .kind) last (drop at F) (I.Over u) q u refl in
+by-in F at k last h (I.Stop e) q = tt
+by-in F at k last h (I.Over u) q =
+    let x = over-in k last (drop at F) (I.Over u) q u refl in
     let e : length (drop at F) ≡ length F - at = length-drop at F in
     (omega (arith, x .0), omega (arith, x .1))
-by-in F at w last h (I.One a l b v) q =
-    let x = one-in (w .kind) last (drop at F) (I.One a l b v) q a l b v refl in
+by-in F at k last h (I.One a l b v) q =
+    let x = one-in k last (drop at F) (I.One a l b v) q a l b v refl in
     let e : length (drop at F) ≡ length F - at = length-drop at F in
     record { key = omega (arith, x .ends); value = omega (arith, x .inside); moves = omega (arith, x .moves) }
 
-step-in : (F : List ℕ) (at : ℕ) (w : Walk) (last : List ℕ) → at ≤ length F → StepIn F at (stepAt (drop at F) last at w)
+step-in : (F : List ℕ) (at k : ℕ) (last : List ℕ) → at ≤ length F → StepIn F at (stepAt (drop at F) last at k)
 unfolding stepAt
-step-in F at w last h = by-in F at w last h (itemOf (w .kind) last (drop at F)) refl
+step-in F at k last h = by-in F at k last h (itemOf k last (drop at F)) refl
 
 -- bytes are left behind a place
 left-is : (F : List ℕ) (to : ℕ) → ltb to (length F) ≡ left (drop to F)
@@ -173,22 +177,28 @@ rest-places F at l h =
     record { within = omega (arith, l .short) }
 
 module _ (F P₁ M : List ℕ) (w₁ : Walk) (at₁ p₁ m : ℕ) (P : List ℕ) (w : Walk) (at p la le : ℕ) (i : InMap F P₁ M w₁ at₁ p₁ m p₁ at₁ at₁ P w at p la le)
-    (o : Step) (is : o ≡ stepAt (take (length F - at) (drop at F)) (take (le - la) (drop la F)) at w) where
+    (o : Step) (is : o ≡ stepAt (take (length F - at) (drop at F)) (take (le - la) (drop la F)) at (w .kind)) where
   here : (y : Step) → o ≡ y → inMap F P M m w at p la le p₁ ≡ stepCut F P M m w p p₁ y
   here y e =
       turned F P M m w at p p₁ (keyAt F la le)
-      ∙ ap (stepCut F P M m w p p₁) (ap (λ (s : List ℕ). stepAt s (keyAt F la le) at w) (sym (part-rest at F)) ∙ sym is ∙ e)
+      ∙ ap (stepCut F P M m w p p₁) (ap (λ (s : List ℕ). stepAt s (keyAt F la le) at (w .kind)) (sym (part-rest at F)) ∙ sym is ∙ e)
 
   in-file : (y : Step) → o ≡ y → StepIn F at y
   in-file y e =
-      subst (StepIn F at) (ap (λ (s : List ℕ). stepAt s (keyAt F la le) at w) (sym (part-rest at F)) ∙ sym is ∙ e) (step-in F at w (keyAt F la le) (i .at≤))
+      subst (StepIn F at) (ap (λ (s : List ℕ). stepAt s (keyAt F la le) at (w .kind)) (sym (part-rest at F)) ∙ sym is ∙ e) (step-in F at (w .kind) (keyAt F la le) (i .at≤))
 
   pub over-less : (to : ℕ) → o ≡ Over to → length F - to < length F - at₁
   over-less to e = omega (arith, in-file (Over to) e, i .at₁≤)
 
-  module _ (e : PairEntry) (v : Walk) (h : o ≡ One e v) where
+  module _ (e : PairEntry) (h : o ≡ One e) where
     bounds : OneAt F at e
-    bounds = in-file (One e v) h
+    bounds = in-file (One e) h
+
+    pub one-key-in : e .key + e .klen ≤ length F
+    one-key-in = omega (arith, bounds .key, bounds .value)
+
+    pub one-value-in : e .value + e .vlen ≤ length F
+    one-value-in = bounds .value
 
     module _ (l : InLimit (length F)) where
       pub one-key : Fits w64 (e .key + e .klen)
@@ -213,10 +223,10 @@ module _ (F P₁ M : List ℕ) (w₁ : Walk) (at₁ p₁ m : ℕ) (P : List ℕ)
     pub one-less : length F - (e .value + e .vlen) < length F - at
     one-less = omega (arith, bounds .value, bounds .moves)
 
-    pub one-again : (b : Bool) → b ≡ hasRoom pairWords p P → not b ≡ false → (P′ : List ℕ) → P′ ≡ putPair P p e
+    pub one-again : (b : Bool) → b ≡ hasRoom pairWords p P → not b ≡ false → (P′ : List ℕ) → P′ ≡ putPair P p e → (v : Walk) → v ≡ notedAt F w e
         → InMap F P₁ M w₁ at₁ p₁ m p₁ at₁ at₁ P′ v (e .value + e .vlen) (p + 1) (e .key) (e .key + e .klen)
     unfolding stepCut
-    one-again b r n P′ q =
+    one-again b r n P′ q v x =
         let long : length P′ ≡ length P = ap length q ∙ length-putPair P p e in
         record {
           at≤ = bounds .value;
@@ -226,7 +236,7 @@ module _ (F P₁ M : List ℕ) (w₁ : Walk) (at₁ p₁ m : ℕ) (P : List ℕ)
           i≤ = omega (arith, i .i≤);
           at₁≤ = omega (arith, i .at₁≤, bounds .moves);
           P= = long ∙ i .P=;
-          is = rw q (sym (here (One e v) h ∙ rw (room-yes b (hasRoom pairWords p P) r n)) ∙ i .is);
+          is = rw (q, x) (sym (here (One e) h ∙ rw (room-yes b (hasRoom pairWords p P) r n)) ∙ i .is);
         }
 
   module _ (P₀ M₀ : List ℕ) (j : AtMaps F P₀ M₀ P₁ M w₁ at₁ p₁ m) (b : Bool) (t : b ≡ hasRoom mapWords m M) (n : not b ≡ false) where
@@ -237,9 +247,9 @@ module _ (F P₁ M : List ℕ) (w₁ : Walk) (at₁ p₁ m : ℕ) (P : List ℕ)
     unfolding stepCut
     exit-stop e q = sym (here (Stop e) q) ∙ so
 
-    pub exit-22 : (e : PairEntry) (v : Walk) → o ≡ One e v → (c : Bool) → c ≡ hasRoom pairWords p P → not c ≡ true → out (A.Refused PairsFull p m) P M ≡ mapsRead F P₀ M₀
+    pub exit-22 : (e : PairEntry) → o ≡ One e → (c : Bool) → c ≡ hasRoom pairWords p P → not c ≡ true → out (A.Refused PairsFull p m) P M ≡ mapsRead F P₀ M₀
     unfolding stepCut
-    exit-22 e v q c r k = sym (here (One e v) q ∙ rw (room-no c (hasRoom pairWords p P) r k)) ∙ so
+    exit-22 e q c r k = sym (here (One e) q ∙ rw (room-no c (hasRoom pairWords p P) r k)) ∙ so
 
     pub map-writes : InLimit (length F) → MapFits M m (record { first = p₁; count = p - p₁ })
     unfolding hasRoom
@@ -287,17 +297,6 @@ pub ruleset loops = (
   exit-23,
   rest-places,
   over-less,
-  one-key,
-  one-value,
-  one-writes,
-  one-more,
-  one-less,
-  one-again,
   exit-stop,
-  exit-22,
-  map-writes,
   map-more,
-  exit-after,
-  exit-done,
-  maps-next,
 )

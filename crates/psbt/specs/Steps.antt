@@ -1,13 +1,10 @@
 -- What stands at a place of the file, with places counted from its front.
 use Prim.Native.Nat.{ℕ, _+_, _≤_}
 use mathlib.Core.List.{List}
-use lib.ListN.{take, drop}
 use Rattle.format.specs.Reading.{limit}
 use Rattle.parsed_map.specs.Fronts.{itemOf}
 use Rattle.parsed_map.specs.declared.Item.{Item}
 use Rattle.parsed_map.specs.declared.Item.the-variants as I
-use Rattle.walk.specs.Walks.{note}
-use Rattle.walk.specs.declared.Walk.{Walk}
 use Rattle.psbt.specs.declared.Step.{Step}
 use Rattle.psbt.specs.declared.Step.the-variants.{Stop, Over, One}
 
@@ -20,11 +17,12 @@ pub record InLimit (n : ℕ) : Type 0 where
   pub magic : 5 ≤ n
   pub short : n ≤ limit
 
--- by the item at the front of s, which begins at `at`
-unfoldable pub stepBy : List ℕ → ℕ → Walk → Item → Step
-stepBy s at w (I.Stop e) = Stop e
-stepBy s at w (I.Over u) = Over (at + u)
-stepBy s at w (I.One a l b v) = One (record { key = at + a; klen = l; value = at + b; vlen = v }) (note (take l (drop a s)) (take v (drop b s)) w)
+-- by the item at the front of what begins at `at`
+unfoldable pub stepBy : ℕ → Item → Step
+stepBy at (I.Stop e) = Stop e
+stepBy at (I.Over u) = Over (at + u)
+stepBy at (I.One a l b v) = One (record { key = at + a; klen = l; value = at + b; vlen = v })
 
-unfoldable pub stepAt : List ℕ → List ℕ → ℕ → Walk → Step
-stepAt s last at w = stepBy s at w (itemOf (w .kind) last s)
+-- in a map of kind k whose last key is `last`
+unfoldable pub stepAt : List ℕ → List ℕ → ℕ → ℕ → Step
+stepAt s last at k = stepBy at (itemOf k last s)

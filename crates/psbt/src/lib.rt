@@ -26,20 +26,19 @@ ghost use Rattle.format.specs.Told.{toldWith, toldParsed, toldParse};
 ghost use Rattle.psbt.specs.Leans.{mapsRead};
 ghost use Rattle.psbt.specs.Steps.{Places, InLimit, stepAt};
 
-// What stands at a place of the file: a refusal, the map's end with the place behind it, or a pair's entry with what is
-// carried on.
+// What stands at a place of the file: a refusal, the map's end with the place behind it, or a pair's entry.
 pub enum Step {
     Stop(PsbtError),
     Over(usize),
-    One { entry: PairEntry, walk: Walk },
+    One(PairEntry),
 }
 
-// One pair or the end of the map that is read, at the front of the file's remaining part, which begins at `at`.
-fn step_at(rest: &[u8], last: &[u8], at: usize, w: Walk) -> Step
+// One pair or the end of a map of this kind, at the front of the file's remaining part, which begins at `at`.
+fn step_at(rest: &[u8], last: &[u8], at: usize, kind: u8) -> Step
     requires { ⌜ Places (length (now rest)) at ⌝ }
-    ensures { λ r. ⌜ r ≡ stepAt (now (rest .entry)) (now (last .entry)) at w ⌝ }
+    ensures { λ r. ⌜ r ≡ stepAt (now (rest .entry)) (now (last .entry)) at kind ⌝ }
 {
-    match next_item(rest, last, w.kind) {
+    match next_item(rest, last, kind) {
         Item::Stop(e) => Step::Stop(e),
         Item::Over(used) => Step::Over(at + used),
         Item::One {
@@ -48,17 +47,12 @@ fn step_at(rest: &[u8], last: &[u8], at: usize, w: Walk) -> Step
             value,
             vlen,
         } => {
-            let key_end = key + klen;
-            let value_end = value + vlen;
-            Step::One {
-                entry: PairEntry {
-                    key: at + key,
-                    klen,
-                    value: at + value,
-                    vlen,
-                },
-                walk: note_pair(w, &rest[key..key_end], &rest[value..value_end]),
-            }
+            Step::One(PairEntry {
+                key: at + key,
+                klen,
+                value: at + value,
+                vlen,
+            })
         }
     }
 }
@@ -90,7 +84,7 @@ fn read_maps(file: &[u8], pairs: &mut [u32], maps: &mut [u32]) -> Parsed
         let mut la: usize = at;
         let mut le: usize = at;
         loop {
-            let x = step_at(&file[at..], &file[la..le], at, w);
+            let x = step_at(&file[at..], &file[la..le], at, w.kind);
             match x {
                 Step::Stop(e) => {
                     answer = Parsed::Refused {
@@ -104,7 +98,7 @@ fn read_maps(file: &[u8], pairs: &mut [u32], maps: &mut [u32]) -> Parsed
                     at = to;
                     break;
                 }
-                Step::One { entry, walk } => {
+                Step::One(entry) => {
                     if !has_pair_room(pairs, p) {
                         answer = Parsed::Refused {
                             error: PsbtError::PairsFull,
@@ -114,11 +108,12 @@ fn read_maps(file: &[u8], pairs: &mut [u32], maps: &mut [u32]) -> Parsed
                         break 'maps;
                     }
                     write_pair(pairs, p, entry);
+                    let value = entry.value;
                     la = entry.key;
                     le = entry.key + entry.klen;
-                    at = entry.value + entry.vlen;
+                    at = value + entry.vlen;
                     p = p + 1;
-                    w = walk;
+                    w = note_pair(w, &file[la..le], &file[value..at]);
                 }
             }
         }

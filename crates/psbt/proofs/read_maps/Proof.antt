@@ -2,7 +2,7 @@
 use borrow.Author.Needs.{needs}
 use Prim.Native.Nat.{_-_}
 use lib.ListN.{length}
-use Rattle.psbt.proofs.Loops.{AtMaps, InMap, loops, one-key, one-value, one-writes, one-more, exit-22, map-writes, exit-after, exit-done, maps-next}
+use Rattle.psbt.proofs.Loops.{AtMaps, InMap, loops, one-key, one-value, one-writes, one-more, one-key-in, one-value-in, one-less, one-again, exit-22, map-writes, exit-after, exit-done, maps-next}
 use Rattle.psbt.proofs.read_maps.Statement.{statement}
 use Rattle.psbt.proofs.read_maps.Tie as tie
 
@@ -42,6 +42,26 @@ add-p c =
     let s = c .before .before .before .before .before .before .before .before .before .before .before .before in
     let l = s .before .before .before in
     search (one-more, c .before .before .before .before .before .before .before .before .before .before .x3 .given .1, s .step-at .ensures, l .loop .inv, l .before .before .before .before .before .before .before .before .before .pre)
+
+part-note-pair-end : tie.Need-part-note-pair-end Inv-loop μ-loop Inv-maps μ-maps
+part-note-pair-end c =
+    let s = c .before .before .before .before .before .before .before .before .before .before .before .before in
+    search (needs, one-key-in, c .before .before .before .before .before .before .before .before .before .before .x3 .given .1, s .step-at .ensures, s .before .before .before .loop .inv)
+
+part-note-pair-end-2 : tie.Need-part-note-pair-end-2 Inv-loop μ-loop Inv-maps μ-maps
+part-note-pair-end-2 c =
+    let s = c .before .before .before .before .before .before .before .before .before .before .before .before .before in
+    search (needs, one-value-in, c .before .before .before .before .before .before .before .before .before .before .before .x3 .given .1, s .step-at .ensures, s .before .before .before .loop .inv)
+
+loop-less : tie.Need-loop-less Inv-loop μ-loop Inv-maps μ-maps
+loop-less c =
+    let s = c .before .before .before .before .before .before .before .before .before .before .before .before .before .before .before in
+    search (one-less, c .before .before .before .before .before .before .before .before .before .before .before .before .before .x3 .given .1, s .step-at .ensures, s .before .before .before .loop .inv)
+
+loop-again : tie.Need-loop-again Inv-loop μ-loop Inv-maps μ-maps
+loop-again c =
+    let s = c .before .before .before .before .before .before .before .before .before .before .before .before .before .before .before in
+    search (one-again, c .note-pair .ensures, c .before .before .before .before .before .before .before .write-pair .ensures, c .before .before .before .before .before .before .before .before .before .if2 .left, c .before .before .before .before .before .before .before .before .before .before .has-pair-room .ensures, c .before .before .before .before .before .before .before .before .before .before .before .before .before .x3 .given .1, s .step-at .ensures, s .before .before .before .loop .inv)
 
 write-map-requires : tie.Need-write-map-requires Inv-loop μ-loop Inv-maps μ-maps
 write-map-requires c κs =
@@ -103,6 +123,13 @@ read-maps-spec =
     add-p
     (λ c. search (needs, loops))
     (λ c. search (needs, loops))
+    part-note-pair-end
+    (λ c. search (needs, loops))
+    (λ c. search (needs, loops))
+    part-note-pair-end-2
+    (λ c κs. search (needs, loops))
+    loop-less
+    loop-again
     (λ c. search (needs, loops))
     write-map-requires
     (λ c. search (needs, loops))

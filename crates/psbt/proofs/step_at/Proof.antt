@@ -3,6 +3,9 @@ use borrow.Author.Needs.{needs}
 use Rattle.psbt.proofs.Steps.{steps}
 use Rattle.psbt.proofs.step_at.Statement.{statement}
 use Rattle.psbt.proofs.step_at.Tie as tie
+use Rattle.psbt.proofs.step_at.Reads as reads
+use Rattle.psbt.proofs.step_at.Lts as lts
+use Rattle.parsed_map.proofs.next_item.Reads as next-item-reads
 
 -- needs: needs, steps
 pub step-at-spec : {M : Type 1} → statement M
@@ -16,15 +19,6 @@ step-at-spec =
     (λ c. search (needs, steps))
     (λ c. search (needs, steps))
     (λ c. search (needs, steps))
-    (λ c. search (needs, steps))
-    (λ c. search (needs, steps))
-    (λ c. search (needs, steps))
-    (λ c. search (needs, steps))
-    (λ c. search (needs, steps))
-    (λ c. search (needs, steps))
-    (λ c. search (needs, steps))
-    (λ c. search (needs, steps))
-    (λ c κs. search (needs, steps))
     (λ c. search (needs, steps))
     (λ c. search (needs, steps))
     (λ c. search (needs, steps)))
