@@ -114,8 +114,9 @@ module _ (f P M : List ℕ) (s : Psbt) (y : Ruled) (is : y ≡ ruledBy (gather (
   unfolding lockDecided lockBy
   told-refused e q = ap (λ (x : _). toldLock (lockBy s x)) (all-not f P M s y is e q)
 
-  pub told-decided : (r : Lock) → r ≡ lockDecided (view f P M s) s → toldLock r ≡ toldLock (lockDecided (view f P M s) s)
-  told-decided r e = ap toldLock e
+  pub told-decided : y ≡ R.Passed → (a : Asks) (r : Lock) → a ≡ walk noAsks 0 (insOf f P M s) → r ≡ decideAsks (s .«fallback_locktime») a
+      → toldLock r ≡ toldLock (lockDecided (view f P M s) s)
+  told-decided q a r ea er = ap toldLock (lock-fit f P M s (all-are f P M s y is q) a r ea er)
 
 pub ruleset calls = (all-are, told-refused, told-decided)
 

@@ -114,6 +114,16 @@ pub see-is : (a : Asks) (i : ℕ) (h t : Wish) (c : Fault) (x y : Kind) → c �
 unfolding seen
 see-is a i h t c x y p q r = λ j. record { fault = p j; height = q j; time = r j }
 
+pub see-at : (f : List ℕ) (x : InputAt) (a r : Asks) (i : ℕ) (h t : Wish) → h ≡ wishOf (sizedIn 4 f (x .height)) → t ≡ wishOf (sizedIn 4 f (x .time)) → r ≡ seen a i h t
+    → r ≡ seenIn a i (inputIn f x)
+unfolding seenIn inputIn
+see-at f x a r i h t eh et q = q ∙ rw (eh, et)
+
+-- the input of a map's entry
+pub shown-at : (f P M : List ℕ) (i : ℕ) (m : MapEntry) → m ≡ mapAt M (1 + i) → (x : InputAt) → inputIn f x ≡ inOf (map (shown f) (entriesOf P m)) → inputIn f x ≡ inAt f P M i
+unfolding inAt pairsOf
+shown-at f P M i m at x e = e ∙ ap (λ (y : MapEntry). inOf (map (shown f) (entriesOf P y))) at
+
 module _ (f P M : List ℕ) (i : ℕ) (w : Whole f P M (1 + i)) where
   pub next-fits : length M < 2 ^ 64 → Fits w64 (1 + i)
   next-fits l = record { fits = omega (arith, w .listed, map-count M) }
@@ -122,11 +132,7 @@ module _ (f P M : List ℕ) (i : ℕ) (w : Whole f P M (1 + i)) where
     pub next-usable : Usable f P m
     next-usable = rw at (w .usable)
 
-    pub see-input : (x : InputAt) → inputIn f x ≡ inOf (map (shown f) (entriesOf P m)) → (a r : Asks) (h t : Wish) → h ≡ wishOf (sizedIn 4 f (x .height)) → t ≡ wishOf (sizedIn 4 f (x .time))
-        → r ≡ seen a i h t → r ≡ seenIn a i (inAt f P M i)
-    unfolding seenIn inputIn inAt pairsOf
-    see-input x e a r h t eh et q =
-        let g : inputIn f x ≡ inAt f P M i = e ∙ ap (λ (y : MapEntry). inOf (map (shown f) (entriesOf P y))) at in
-        q ∙ rw (eh, et) (ap (seenIn a i) g)
+    pub see-input : (x : InputAt) → inputIn f x ≡ inOf (map (shown f) (entriesOf P m)) → (a r : Asks) → r ≡ seenIn a i (inputIn f x) → r ≡ seenIn a i (inAt f P M i)
+    see-input x e a r q = q ∙ ap (seenIn a i) (shown-at f P M i m at x e)
 
 pub ruleset sees = (next-fits, next-usable, see-input)

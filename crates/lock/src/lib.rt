@@ -1,4 +1,5 @@
 // The lock time of a transaction, and what decided it. Nothing else looks inside the rule.
+use all_maps::InputAt;
 use all_maps::SizedAt;
 use format::Lock;
 use format::Looked;
@@ -13,7 +14,7 @@ ghost use Rattle.format.specs.Locks.{lockOf};
 ghost use Rattle.format.specs.Transaction.{lockDecided};
 ghost use Rattle.format.specs.Told.{toldLock};
 ghost use Rattle.all_maps.specs.Alls.{Whole, AllFit, inAt, insOf};
-ghost use Rattle.all_maps.specs.Places.{sizedIn};
+ghost use Rattle.all_maps.specs.Places.{sizedIn, inputIn};
 ghost use Rattle.lock.specs.Asks.{wishOf, isWrong, raised, toppedBy, faultBy, seen, seenIn, noAsks, walk, heightBy, timeBy, decideKinds, decideAsks, lockedBy};
 
 // What an input asks for by one of its fields.
@@ -148,16 +149,22 @@ fn see(asks: Asks, input: u64, height: Wish, time: Wish) -> Asks
     }
 }
 
+// The same, with an input whose fields stand at known places.
+pub fn see_at(file: &[u8], asks: Asks, input: u64, at: InputAt) -> Asks
+    ensures { λ r. ⌜ r ≡ seenIn asks input (inputIn (now (file .entry)) at) ⌝ }
+{
+    let height = at.height;
+    let time = at.time;
+    see(asks, input, wish_at(file, height), wish_at(file, time))
+}
+
 // The same, with input number `i`.
 fn see_input(file: &[u8], pairs: &[u32], maps: &[u32], i: u64, asks: Asks) -> Asks
     requires { ⌜ Whole (now file) (now pairs) (now maps) (1 + i) ⌝ }
     ensures { λ r. ⌜ r ≡ seenIn asks i (inAt (now (file .entry)) (now (pairs .entry)) (now (maps .entry)) i) ⌝ }
 {
     let m = entries::map_entry(maps, (1 + i) as usize);
-    let at = all_maps::input_at(file, pairs, m);
-    let height = at.height;
-    let time = at.time;
-    see(asks, i, wish_at(file, height), wish_at(file, time))
+    see_at(file, asks, i, all_maps::input_at(file, pairs, m))
 }
 
 // What all inputs ask for.
@@ -219,7 +226,7 @@ fn decide_kinds(fallback: u32, height: Kind, time: Kind) -> Lock
 }
 
 // The lock rule, over what the inputs ask for.
-fn decide(fallback: Maybe, asks: Asks) -> Lock
+pub fn decide(fallback: Maybe, asks: Asks) -> Lock
     ensures { λ r. ⌜ r ≡ decideAsks fallback asks ⌝ }
 {
     let fault = asks.fault;
@@ -231,22 +238,16 @@ fn decide(fallback: Maybe, asks: Asks) -> Lock
     }
 }
 
-// What decides the lock, where all maps are fit.
-pub fn lock_in(file: &[u8], pairs: &[u32], maps: &[u32], psbt: Psbt) -> Lock
-    requires { ⌜ AllFit (now file) (now pairs) (now maps) psbt ⌝ }
-    ensures { λ r. ⌜ r ≡ lockDecided (view (now (file .entry)) (now (pairs .entry)) (now (maps .entry)) psbt) psbt ⌝ }
-{
-    let fallback = psbt.fallback_locktime;
-    decide(fallback, all_asks(file, pairs, maps, psbt))
-}
-
 // What decides the lock: a map that is unfit refuses first.
 pub fn lock_decided(file: &[u8], pairs: &[u32], maps: &[u32], psbt: Psbt) -> Lock
     ensures { λ r. ⌜ toldLock r ≡ toldLock (lockDecided (view (now (file .entry)) (now (pairs .entry)) (now (maps .entry)) psbt) psbt) ⌝ }
 {
     match all_maps::all_fit(file, pairs, maps, psbt) {
         Ruled::Refused(e) => Lock::Refused(e),
-        Ruled::Passed => lock_in(file, pairs, maps, psbt),
+        Ruled::Passed => {
+            let fallback = psbt.fallback_locktime;
+            decide(fallback, all_asks(file, pairs, maps, psbt))
+        }
     }
 }
 

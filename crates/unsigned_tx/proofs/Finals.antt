@@ -44,11 +44,13 @@ use Rattle.all_maps.specs.declared.FoundAt.the-variants as F
 use Rattle.all_maps.proofs.Runs.{from-length}
 use Rattle.all_maps.proofs.Gathers.{all-are, all-not, all-reported, output-usable}
 use Rattle.all_maps.proofs.Fields.{usable-within, found-shows}
-use Rattle.lock.specs.Asks.{lockedBy}
+use Rattle.lock.specs.Asks.{noAsks, walk, decideAsks, lockedBy}
+use Rattle.lock.proofs.Locks.{lock-fit}
 use Rattle.lock.specs.declared.LockTime.{LockTime}
 use Rattle.lock.specs.declared.LockTime.the-variants as L
 use Rattle.unsigned_tx.specs.Walks.{inputOk, inputLength, scripted, allScripted, outsLength, capped, outsMeasure, fixedLength, put, putInput, putInputs, putOutput, putOutputs, putLock, putRest, putFront, putTx, txBytes}
-use Rattle.unsigned_tx.specs.Places.{outNow, outsNow, isFound, txMeasure, FrontRoom, RestRoom, TxRoom}
+use Rattle.unsigned_tx.specs.Places.{outNow, outsNow, surveyOf, AllOk, isFound, txMeasure, FrontRoom, RestRoom, TxRoom}
+use Rattle.unsigned_tx.specs.declared.Survey.{Survey}
 use Rattle.unsigned_tx.specs.declared.Measure.{Measure}
 use Rattle.unsigned_tx.specs.declared.Measure.the-variants.{Refused, Takes}
 use Rattle.unsigned_tx.proofs.Walks.{tx-bad-input, tx-bad-output, tx-ok, tx-long, put-tx, capped-most, capped-more, capped-least, capped-room, outs-length, sized-to, SizedIn, SizedOut}
@@ -56,16 +58,14 @@ use Rattle.unsigned_tx.proofs.Inputs.{rest-none, rest-one, rest-all, le
 use Rattle.unsigned_tx.proofs.Outputs.{length-output}
 
 -- the measure of the whole
-module _ (s : Psbt) (ins : List In) (outs : List Out) (b : Bool) (e : b ≡ every inputOk ins) where
-  pub len-inputs : b ≡ false → Refused BadValue ≡ txMeasure s ins outs
-  unfolding txMeasure
-  len-inputs h = rw (sym e ∙ h)
+pub len-bad : (s : Psbt) (ins : List In) (outs : List Out) → every inputOk ins ≡ false → Refused BadValue ≡ txMeasure s ins outs
+unfolding txMeasure
+len-bad s ins outs h = sym (rw h)
 
-  pub len-outputs : b ≡ true → (n : ℕ) → n ≡ capped (fixedLength (s .inputs) (s .outputs)) → (r : Measure) → r ≡ outsMeasure outs n → r ≡ txMeasure s ins outs
-  unfolding txMeasure
-  len-outputs h n q r w = w ∙ ap (outsMeasure outs) q ∙ sym (rw (sym e ∙ h))
-
-pub ruleset tx-lens = (len-inputs, len-outputs)
+pub len-ok : (f P M : List ℕ) (s : Psbt) (outs : List Out) → AllOk f P M s → (n : ℕ) → n ≡ capped (fixedLength (s .inputs) (s .outputs)) → (r : Measure) → r ≡ outsMeasure outs n
+    → r ≡ txMeasure s (insOf f P M s) outs
+unfolding txMeasure
+len-ok f P M s outs k n e r q = q ∙ ap (outsMeasure outs) e ∙ sym (rw (k .ok))
 
 -- the numbers of inputs and outputs
 ins-count : (f P M : List ℕ) (s : Psbt) → length (insOf f P M s) ≡ s .inputs
@@ -239,7 +239,7 @@ module _ (f P M : List ℕ) (s : Psbt) (t : State) (T : List ℕ) (n : ℕ) (B :
           let lt : length B < length x = omega (arith, total, long, capped-least (fixedLength (s .inputs) (s .outputs) + outsLength (outsNow f P M s t T))) in
           sym (ap (written t B) bytes ∙ rw (lt-leb (length x) (length B) lt))
 
-pub ruleset lockeds = (locked-refused, locked-room, locked-written, locked-none)
+pub ruleset lockeds = (len-ok, locked-refused, locked-room, locked-written, locked-none)
 
 -- a script that was found is present
 pub found-by : (x y : FoundAt) (b : Bool) → x ≡ y → b ≡ isFound y → b ≡ isFound x
@@ -310,10 +310,21 @@ module _ (f P M : List ℕ) (s : Psbt) (t : State) (T : List ℕ) (k : AllFit f 
   unfolding txReported written
   call-table h = sym (by-maps ∙ rw (sym eb ∙ h))
 
-  module _ (h : b ≡ true) (l : Lock) (el : l ≡ lockDecided (view f P M s) s) (r : LockTime) (er : lockedBy r ≡ lockOf l) where
+  module _ (h : b ≡ true) (v : Survey) (ev : v ≡ surveyOf (insOf f P M s)) (l : Lock) (el : l ≡ decideAsks (s .«fallback_locktime») (v .asks)) (r : LockTime) (er : lockedBy r ≡ lockOf l) where
+    asked : v .asks ≡ walk noAsks 0 (insOf f P M s)
+    unfolding surveyOf
+    asked = ap (λ (x : Survey). x .asks) ev
+
+    judged : (b : Bool) → v .ok ≡ b → every inputOk (insOf f P M s) ≡ b
+    unfolding surveyOf
+    judged b e = sym (ap (λ (x : Survey). x .ok) ev) ∙ e
+
+    pub call-ok : v .ok ≡ true → AllOk f P M s
+    call-ok e = record { all-fit = k; ok = judged true e }
+
     decided : lockOf (decide (s .«fallback_locktime») (insOf f P M s)) ≡ lockedBy r
     unfolding lockDecided lockBy
-    decided = sym (er ∙ ap lockOf (el ∙ ap (lockBy s) (sym (all-reported f P M s k))))
+    decided = sym (er ∙ ap lockOf (lock-fit f P M s k (v .asks) l asked el ∙ ap (lockBy s) (sym (all-reported f P M s k))))
 
     by-lock : unsignedTx (view f P M s) s t T B ≡ written t B (txBy s (insOf f P M s) (outsOf f P M s) (setSoFar t T) (lockedBy r))
     unfolding txReported transaction
@@ -328,7 +339,12 @@ module _ (f P M : List ℕ) (s : Psbt) (t : State) (T : List ℕ) (k : AllFit f 
     unfolding txBy lockedBy
     call-locked n q x B₁ w = w ∙ sym (by-lock ∙ rw q)
 
-pub ruleset calls = (call-table, call-lock, call-locked)
+    pub call-bad : (n : ℕ) → r ≡ L.Is n → v .ok ≡ false → txOut (U.Refused BadValue) B ≡ unsignedTx (view f P M s) s t T B
+    call-bad n q e =
+        call-locked n q (U.Refused BadValue) B
+        (locked-refused f P M s t T n B (Refused BadValue) (len-bad s (insOf f P M s) (outsNow f P M s t T) (judged false e)) BadValue refl)
+
+pub ruleset calls = (call-table, call-ok, call-lock, call-locked, call-bad)
 
 -- the public call
 module _ (f P M : List ℕ) (s : Psbt) (t : State) (T B : List ℕ) (y : Ruled) (ey : y ≡ ruledBy (gather (view f P M s) 0 (mapsReported s))) where

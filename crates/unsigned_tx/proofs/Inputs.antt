@@ -29,7 +29,11 @@ use Rattle.all_maps.proofs.Gathers.{input-listed, input-usable}
 use Rattle.writer.specs.Writes.{wrote}
 use Rattle.writer.proofs.Writes.{wrote-none, length-wrote}
 use Rattle.unsigned_tx.specs.Walks.{bytesIn, isThere, inputOk, inputLength, put, putInput, putInputs}
-use Rattle.unsigned_tx.specs.Places.{inIn, thereAt, allowedAt, InputRoom, InputsRoom}
+use Rattle.lock.specs.Asks.{seenIn, noAsks}
+use Rattle.lock.specs.declared.Asks.{Asks}
+use Rattle.lock.proofs.Wishes.{shown-at}
+use Rattle.lock.proofs.Locks.{Walking, walk-first, walk-done, walk-more}
+use Rattle.unsigned_tx.specs.Places.{inIn, thereAt, allowedAt, okAt, surveyOf, InputRoom, InputsRoom}
 
 -- a field that is there, by the case that it is
 module _ (x y : SizedAt) (e : x ≡ y) (b : Bool) where
@@ -51,39 +55,36 @@ allowed-in w f S.Missing = refl
 allowed-in w f S.Misfit = refl
 allowed-in w f (S.At s) = refl
 
--- an input that a map shows, by the places of its fields
-module _ (f P : List ℕ) (m : MapEntry) (x : InputAt) (e : inputIn f x ≡ inOf (map (shown f) (entriesOf P m))) where
-  shown-in : inIn f P m ≡ inputIn f x
-  unfolding inIn
-  shown-in = sym e
+-- an input has what a transaction needs, by the places of its fields
+module _ (x : InputAt) (a : Bool) (ea : a ≡ thereAt (x .txid)) where
+  pub ok-no-txid : a ≡ false → false ≡ okAt x
+  unfolding okAt
+  ok-no-txid h = rw (sym ea ∙ h)
 
-  txid-there : isThere ((inIn f P m) .txid) ≡ thereAt (x .txid)
-  unfolding inputIn
-  txid-there = ap (λ (y : In). isThere (y .txid)) shown-in ∙ there-in 32 f (x .txid)
+  module _ (h : a ≡ true) (b : Bool) (eb : b ≡ thereAt (x .index)) where
+    pub ok-no-index : b ≡ false → false ≡ okAt x
+    unfolding okAt
+    ok-no-index k = rw (sym ea ∙ h, sym eb ∙ k)
 
-  index-there : isThere ((inIn f P m) .index) ≡ thereAt (x .index)
-  unfolding inputIn
-  index-there = ap (λ (y : In). isThere (y .index)) shown-in ∙ there-in 4 f (x .index)
-
-  sequence-fits : isThere (orFinal ((inIn f P m) .sequence)) ≡ allowedAt (x .sequence)
-  unfolding inputIn
-  sequence-fits = ap (λ (y : In). isThere (orFinal (y .sequence))) shown-in ∙ allowed-in 4 f (x .sequence)
-
-  module _ (a : Bool) (ea : a ≡ thereAt (x .txid)) where
-    pub ok-no-txid : a ≡ false → false ≡ inputOk (inIn f P m)
-    unfolding inputOk
-    ok-no-txid h = rw (txid-there ∙ sym ea ∙ h)
-
-    module _ (h : a ≡ true) (b : Bool) (eb : b ≡ thereAt (x .index)) where
-      pub ok-no-index : b ≡ false → false ≡ inputOk (inIn f P m)
-      unfolding inputOk
-      ok-no-index k = rw (txid-there ∙ sym ea ∙ h, index-there ∙ sym eb ∙ k)
-
-      pub ok-sequence : b ≡ true → (r : Bool) → r ≡ allowedAt (x .sequence) → r ≡ inputOk (inIn f P m)
-      unfolding inputOk
-      ok-sequence k r er = er ∙ sym (rw (txid-there ∙ sym ea ∙ h, index-there ∙ sym eb ∙ k) sequence-fits)
+    pub ok-sequence : b ≡ true → (r : Bool) → r ≡ allowedAt (x .sequence) → r ≡ okAt x
+    unfolding okAt
+    ok-sequence k r er = er ∙ sym (rw (sym ea ∙ h, sym eb ∙ k))
 
 pub ruleset oks = (ok-no-txid, ok-no-index, ok-sequence)
+
+-- the inputs so far, and one more
+module _ (ok : Bool) (x : InputAt) where
+  pub all-more : ok ≡ true → (r : Bool) → r ≡ okAt x → r ≡ (ok && okAt x)
+  all-more h r q = q ∙ sym (rw h)
+
+  pub all-none : ok ≡ false → false ≡ (ok && okAt x)
+  all-none h = rw h
+
+pub ruleset alls = (all-more, all-none)
+
+ok-in : (f : List ℕ) (x : InputAt) → okAt x ≡ inputOk (inputIn f x)
+unfolding okAt inputOk inputIn
+ok-in f x = sym (rw (there-in 32 f (x .txid), there-in 4 f (x .index), allowed-in 4 f (x .sequence)))
 
 -- the input of its map's entry
 in-at : (f P M : List ℕ) (i : ℕ) (m : MapEntry) → m ≡ mapAt M (1 + i) → inAt f P M i ≡ inIn f P m
@@ -106,31 +107,42 @@ module _ (f P M : List ℕ) (s : Psbt) (i : ℕ) (k : AllFit f P M s) (h : i < s
   pub input-number : length M < 2 ^ 64 → Fits w64 (1 + i)
   input-number g = record { fits = omega (arith, input-listed f P M s k i h, map-count M) }
 
--- judging inputs from number i on gives what judging all gives
-pub record Judging (f P M : List ℕ) (s : Psbt) (i : ℕ) : Type 0 where
-  pub is : every inputOk (from (inAt f P M) i (s .inputs - i)) ≡ every inputOk (insOf f P M s)
+-- what is known of the inputs before number i, with those from i on, is what is known of all
+pub record Surveying (f P M : List ℕ) (s : Psbt) (a : Asks) (ok : Bool) (i : ℕ) : Type 0 where
+  pub asked : Walking f P M s a i
+  pub judged : (ok && every inputOk (from (inAt f P M) i (s .inputs - i))) ≡ every inputOk (insOf f P M s)
 
-pub judge-first : (f P M : List ℕ) (s : Psbt) → Judging f P M s 0
+pub survey-first : (f P M : List ℕ) (s : Psbt) → Surveying f P M s noAsks true 0
 unfolding insOf
-judge-first f P M s = record { is = ap (every inputOk) (rest-all (inAt f P M) (s .inputs)) }
+survey-first f P M s = record { asked = walk-first f P M s; judged = ap (every inputOk) (rest-all (inAt f P M) (s .inputs)) }
 
-module _ (f P M : List ℕ) (s : Psbt) (i : ℕ) (k : Judging f P M s i) where
-  pub judge-done : s .inputs ≤ i → true ≡ every inputOk (insOf f P M s)
+and-assoc : (a b c : Bool) → ((a && b) && c) ≡ (a && (b && c))
+and-assoc true b c = refl
+and-assoc false b c = refl
+
+and-true : (a : Bool) → (a && true) ≡ a
+and-true true = refl
+and-true false = refl
+
+module _ (f P M : List ℕ) (s : Psbt) (a : Asks) (ok : Bool) (i : ℕ) (k : Surveying f P M s a ok i) where
+  pub survey-done : s .inputs ≤ i → record { asks = a; ok = ok } ≡ surveyOf (insOf f P M s)
+  unfolding surveyOf every
+  survey-done h =
+      let o : ok ≡ every inputOk (insOf f P M s) = sym (ap (λ (l : List In). ok && every inputOk l) (rest-none (inAt f P M) i (s .inputs) h) ∙ and-true ok) ∙ k .judged in
+      let w = walk-done f P M s a i (k .asked) h in
+      λ j. record { asks = w j; ok = o j }
+
+  pub survey-more : i < s .inputs → (m : MapEntry) → m ≡ mapAt M (1 + i) → (x : InputAt) → inputIn f x ≡ inOf (map (shown f) (entriesOf P m)) → (b : Asks) (c : Bool)
+      → b ≡ seenIn a i (inputIn f x) → c ≡ (ok && okAt x) → Surveying f P M s b c (i + 1)
   unfolding every
-  judge-done h = sym (ap (every inputOk) (rest-none (inAt f P M) i (s .inputs) h)) ∙ k .is
+  survey-more h m e x q b c eb ec =
+      let g = shown-at f P M i m e x q in
+      record {
+        asked = walk-more f P M s a i (k .asked) h b (eb ∙ ap (seenIn a i) g);
+        judged = rw (ec, ok-in f x, g) (and-assoc ok _ _ ∙ sym (ap (λ (l : List In). ok && every inputOk l) (rest-one (inAt f P M) i (s .inputs) h)) ∙ k .judged);
+      }
 
-  module _ (h : i < s .inputs) (m : MapEntry) (e : m ≡ mapAt M (1 + i)) (r : Bool) (q : r ≡ inputOk (inIn f P m)) where
-    step : every inputOk (insOf f P M s) ≡ (r && every inputOk (from (inAt f P M) (i + 1) (s .inputs - (i + 1))))
-    unfolding every
-    step = sym (k .is) ∙ ap (every inputOk) (rest-one (inAt f P M) i (s .inputs) h) ∙ rw (in-at f P M i m e, q)
-
-    pub judge-stop : r ≡ false → false ≡ every inputOk (insOf f P M s)
-    judge-stop t = sym (step ∙ rw t)
-
-    pub judge-more : r ≡ true → Judging f P M s (i + 1)
-    judge-more t = record { is = sym (step ∙ rw t) }
-
-pub ruleset judges = (judge-first, judge-done, judge-stop, judge-more, input-listed, input-usable, input-number)
+pub ruleset surveys = (survey-first, survey-done, survey-more, input-listed, input-usable, input-number)
 
 -- a field written
 module _ (f : List ℕ) (x : SizedAt) (w at : ℕ) (B : List ℕ) where

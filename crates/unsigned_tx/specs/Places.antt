@@ -1,6 +1,7 @@
 -- What the tables show of inputs and outputs, what stands where in the file and in the script table, and what the inner functions ask.
 use Prim.Native.Nat.{ℕ, _+_, _*_, _≤_}
-use mathlib.Core.Bool.{Bool, true, false}
+use mathlib.Core.Path.{_≡_}
+use mathlib.Core.Bool.{Bool, true, false, _&&_}
 use mathlib.Core.List.{List, [], _∷_, map}
 use lib.ListN.{length, take, drop}
 use lib.Dec.{eqb}
@@ -17,12 +18,15 @@ use Rattle.format.specs.declared.State.{State}
 use Rattle.lookup.specs.Fits.{entriesOf}
 use Rattle.writer.specs.Writes.{sizeLength}
 use Rattle.scripts.specs.Tables.{entryAt}
-use Rattle.all_maps.specs.Alls.{Usable, AllFit, outAt, from}
+use Rattle.all_maps.specs.Alls.{Usable, AllFit, outAt, from, insOf}
 use Rattle.all_maps.specs.declared.SizedAt.{SizedAt}
 use Rattle.all_maps.specs.declared.SizedAt.the-variants as S
+use Rattle.all_maps.specs.declared.InputAt.{InputAt}
 use Rattle.all_maps.specs.declared.FoundAt.{FoundAt}
 use Rattle.all_maps.specs.declared.FoundAt.the-variants as F
+use Rattle.lock.specs.Asks.{noAsks, walk}
 use Rattle.unsigned_tx.specs.Walks.{inputOk, inputLength, scripted, scriptBytes, outLength, outsLength, capped, outsMeasure, fixedLength, Put, put, putOutput}
+use Rattle.unsigned_tx.specs.declared.Survey.{Survey}
 use Rattle.unsigned_tx.specs.declared.Measure.{Measure}
 use Rattle.unsigned_tx.specs.declared.Measure.the-variants.{Refused}
 use Rattle.unsigned_tx.specs.declared.ScriptAt.{ScriptAt}
@@ -52,6 +56,14 @@ unfoldable pub allowedAt : SizedAt → Bool
 allowedAt S.Missing = true
 allowedAt S.Misfit = false
 allowedAt (S.At s) = true
+
+-- an input whose fields stand at these places has what a transaction needs
+unfoldable pub okAt : InputAt → Bool
+okAt a = thereAt (a .txid) && (thereAt (a .index) && allowedAt (a .sequence))
+
+-- what inputs ask of the lock, and whether each has what a transaction needs
+unfoldable pub surveyOf : List In → Survey
+surveyOf ins = record { asks = walk noAsks 0 ins; ok = every inputOk ins }
 
 -- a value was found
 unfoldable pub isFound : FoundAt → Bool
@@ -86,6 +98,11 @@ txMeasure s ins outs = pick (every inputOk ins) (outsMeasure outs (capped (fixed
 -- an output written from `at` on, and the place behind it
 unfoldable pub putOne : List ℕ → ℕ → Out → Put
 putOne B at o = put (at + outLength (length (scriptBytes (o .script)))) (putOutput B at (o .amount) (scriptBytes (o .script)))
+
+-- maps that are fit, and inputs that have what a transaction needs
+pub record AllOk (f P M : List ℕ) (s : Psbt) : Type 0 where
+  pub all-fit : AllFit f P M s
+  pub ok : every inputOk (insOf f P M s) ≡ true
 
 -- what writing asks: maps that are fit, and the room
 pub record InputRoom (f P : List ℕ) (m : MapEntry) (at n : ℕ) : Type 0 where

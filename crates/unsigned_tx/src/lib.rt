@@ -1,5 +1,6 @@
 // The unsigned transaction: measured and judged first, then written, so that a refusal writes nothing.
 use all_maps::FoundAt;
+use all_maps::InputAt;
 use all_maps::SizedAt;
 use format::Looked;
 use format::MapEntry;
@@ -10,8 +11,12 @@ use format::PsbtError;
 use format::Ruled;
 use format::State;
 use format::UnsignedTx;
+use lock::Asks;
+use lock::Fault;
+use lock::Kind;
 use lock::LockTime;
 ghost use mathlib.Core.Path.{_≡_};
+ghost use mathlib.Core.Bool.{_&&_};
 ghost use Prim.Native.Nat.{_+_, _^_, _<_, _≤_};
 ghost use lib.ListN.{length};
 ghost use Rattle.format.specs.Tests.{every};
@@ -24,7 +29,7 @@ ghost use Rattle.scripts.specs.Tables.{entryAt};
 ghost use Rattle.all_maps.specs.Alls.{Usable, AllFit, insOf, outsOf};
 ghost use Rattle.all_maps.specs.Places.{sizedIn};
 ghost use Rattle.unsigned_tx.specs.Walks.{bytesIn, inputOk, scripted, scriptBytes, outLength, capped, outMeasure, outsMeasure, fixedLength, put, putInput, putInputs, putOutputs, putRest, putFront, putTx};
-ghost use Rattle.unsigned_tx.specs.Places.{inIn, outIn, outsNow, thereAt, allowedAt, isFound, isSet, scriptIn, scriptLength, hasScript, txMeasure, putOne, InputRoom, InputsRoom, OutputRoom, OutputsRoom, FrontRoom, RestRoom, TxRoom};
+ghost use Rattle.unsigned_tx.specs.Places.{inIn, outIn, outsNow, thereAt, allowedAt, okAt, surveyOf, AllOk, isFound, isSet, scriptIn, scriptLength, hasScript, putOne, InputRoom, InputsRoom, OutputRoom, OutputsRoom, FrontRoom, RestRoom, TxRoom};
 
 // How many bytes something takes, or the refusal.
 pub enum Measure {
@@ -37,6 +42,12 @@ pub enum ScriptAt {
     Missing,
     InFile { start: usize, len: usize },
     InTable,
+}
+
+// What all inputs ask of the lock, and whether each has what a transaction needs.
+pub struct Survey {
+    pub asks: Asks,
+    pub ok: bool,
 }
 
 // More bytes than any buffer has.
@@ -66,11 +77,9 @@ fn is_allowed(x: SizedAt) -> bool
 }
 
 // An input has what a transaction needs.
-fn input_ok(file: &[u8], pairs: &[u32], m: MapEntry) -> bool
-    requires { ⌜ Usable (now file) (now pairs) m ⌝ }
-    ensures { λ r. ⌜ r ≡ inputOk (inIn (now (file .entry)) (now (pairs .entry)) m) ⌝ }
+fn input_ok(at: InputAt) -> bool
+    ensures { λ r. ⌜ r ≡ okAt at ⌝ }
 {
-    let at = all_maps::input_at(file, pairs, m);
     let txid = at.txid;
     let index = at.index;
     let sequence = at.sequence;
@@ -85,21 +94,33 @@ fn input_ok(file: &[u8], pairs: &[u32], m: MapEntry) -> bool
     }
 }
 
-// All inputs have.
-fn inputs_ok(file: &[u8], pairs: &[u32], maps: &[u32], psbt: Psbt) -> bool
-    requires { ⌜ AllFit (now file) (now pairs) (now maps) psbt ⌝ }
-    ensures { λ r. ⌜ r ≡ every inputOk (insOf (now (file .entry)) (now (pairs .entry)) (now (maps .entry)) psbt) ⌝ }
+// The inputs so far have, and one more.
+fn all_ok(ok: bool, at: InputAt) -> bool
+    ensures { λ r. ⌜ r ≡ (ok && okAt at) ⌝ }
 {
+    if ok { input_ok(at) } else { false }
+}
+
+// What all inputs ask of the lock, and whether each has what a transaction needs, in one walk.
+fn survey_inputs(file: &[u8], pairs: &[u32], maps: &[u32], psbt: Psbt) -> Survey
+    requires { ⌜ AllFit (now file) (now pairs) (now maps) psbt ⌝ }
+    ensures { λ r. ⌜ r ≡ surveyOf (insOf (now (file .entry)) (now (pairs .entry)) (now (maps .entry)) psbt) ⌝ }
+{
+    let mut asks = Asks {
+        fault: Fault::Nowhere,
+        height: Kind::Unasked,
+        time: Kind::Unasked,
+    };
+    let mut ok = true;
     let mut i: u64 = 0;
     while i < psbt.inputs {
         let m = entries::map_entry(maps, (1 + i) as usize);
-        if input_ok(file, pairs, m) {
-            i = i + 1;
-        } else {
-            return false;
-        }
+        let at = all_maps::input_at(file, pairs, m);
+        asks = lock::see_at(file, asks, i, at);
+        ok = all_ok(ok, at);
+        i = i + 1;
     }
-    true
+    Survey { asks, ok }
 }
 
 // The `width` bytes of a field that is there.
@@ -331,25 +352,6 @@ fn fixed_len(psbt: Psbt) -> u64
     }
 }
 
-// How long the transaction is, or its first refusal: inputs in order, outputs in order.
-fn tx_len(
-    file: &[u8],
-    pairs: &[u32],
-    maps: &[u32],
-    psbt: Psbt,
-    state: State,
-    scripts: &[u8],
-) -> Measure
-    requires { ⌜ AllFit (now file) (now pairs) (now maps) psbt ⌝ }
-    ensures { λ r. ⌜ r ≡ txMeasure psbt (insOf (now (file .entry)) (now (pairs .entry)) (now (maps .entry)) psbt) (outsNow (now (file .entry)) (now (pairs .entry)) (now (maps .entry)) psbt state (now (scripts .entry))) ⌝ }
-{
-    if inputs_ok(file, pairs, maps, psbt) {
-        outputs_len(file, pairs, maps, psbt, state, scripts, fixed_len(psbt))
-    } else {
-        Measure::Refused(PsbtError::BadValue)
-    }
-}
-
 // An output: amount, script length, script; and the place behind it.
 fn put_output(
     file: &[u8],
@@ -457,7 +459,7 @@ fn put_tx(
     put_rest(file, pairs, maps, psbt, state, scripts, lock, out, at);
 }
 
-// The transaction with this lock time: its first refusal, 25, or its bytes.
+// The transaction with this lock time, where each input has what it needs: the first refusal of its outputs, 25, or its bytes.
 fn locked_tx(
     file: &[u8],
     pairs: &[u32],
@@ -468,10 +470,11 @@ fn locked_tx(
     lock: u32,
     out: &mut [u8],
 ) -> UnsignedTx
-    requires { ⌜ AllFit (now file) (now pairs) (now maps) psbt ⌝ }
+    requires { ⌜ AllOk (now file) (now pairs) (now maps) psbt ⌝ }
     ensures { λ r. ⌜ txOut r (now (out .exit)) ≡ written state (now (out .entry)) (txWith psbt (insOf (now (file .entry)) (now (pairs .entry)) (now (maps .entry)) psbt) (outsOf (now (file .entry)) (now (pairs .entry)) (now (maps .entry)) psbt) (setSoFar state (now (scripts .entry))) lock) ⌝ }
 {
-    match tx_len(file, pairs, maps, psbt, state, scripts) {
+    let fixed = fixed_len(psbt);
+    match outputs_len(file, pairs, maps, psbt, state, scripts, fixed) {
         Measure::Refused(e) => UnsignedTx::Refused(e),
         Measure::Takes(len) => {
             if len <= out.len() as u64 {
@@ -551,10 +554,17 @@ fn fit_tx(
     ensures { λ r. ⌜ txOut r (now (out .exit)) ≡ unsignedTx (view (now (file .entry)) (now (pairs .entry)) (now (maps .entry)) psbt) psbt state (now (scripts .entry)) (now (out .entry)) ⌝ }
 {
     if table_fits(file, pairs, maps, psbt, state, scripts) {
-        let lock = lock::lock_in(file, pairs, maps, psbt);
-        match lock::lock_of(lock) {
+        let seen = survey_inputs(file, pairs, maps, psbt);
+        let asks = seen.asks;
+        let fallback = psbt.fallback_locktime;
+        match lock::lock_of(lock::decide(fallback, asks)) {
             LockTime::Refused(e) => UnsignedTx::Refused(e),
-            LockTime::Is(n) => locked_tx(file, pairs, maps, psbt, state, scripts, n, out),
+            LockTime::Is(n) => {
+                if seen.ok {
+                    return locked_tx(file, pairs, maps, psbt, state, scripts, n, out);
+                }
+                UnsignedTx::Refused(PsbtError::BadValue)
+            }
         }
     } else {
         UnsignedTx::Refused(PsbtError::BadIndex)

@@ -13,5 +13,6 @@ lock-decided-spec =
     (λ c. search (needs, calls))
     (λ c. search (needs, calls))
     (λ c κs. search (needs, calls))
+    (λ c κs. search (needs, calls))
     (λ c. search (needs, calls))
     (λ c. search (needs, calls)))

@@ -13,6 +13,4 @@ see-input-spec =
     (λ c κs. search (needs, sees))
     (λ c κs. search (needs, sees))
     (λ c κs. search (needs, sees))
-    (λ c κs. search (needs, sees))
-    (λ c κs. search (needs, sees))
     (λ c. search (needs, sees)))

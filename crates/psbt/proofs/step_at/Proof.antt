@@ -3,9 +3,6 @@ use borrow.Author.Needs.{needs}
 use Rattle.psbt.proofs.Steps.{steps}
 use Rattle.psbt.proofs.step_at.Statement.{statement}
 use Rattle.psbt.proofs.step_at.Tie as tie
-use Rattle.psbt.proofs.step_at.Reads as reads
-use Rattle.psbt.proofs.step_at.Lts as lts
-use Rattle.parsed_map.proofs.next_item.Reads as next-item-reads
 
 -- needs: needs, steps
 pub step-at-spec : {M : Type 1} → statement M

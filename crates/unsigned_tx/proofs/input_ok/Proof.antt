@@ -12,7 +12,6 @@ input-ok-spec =
     (λ c κs. search (needs, oks))
     (λ c κs. search (needs, oks))
     (λ c κs. search (needs, oks))
-    (λ c κs. search (needs, oks))
     (λ c. search (needs, oks))
     (λ c. search (needs, oks))
     (λ c. search (needs, oks)))
