@@ -106,7 +106,7 @@ module _ (f : List ℕ) (t w : ℕ) where
       by true = field-stays (S.At s) es (λ e. refl)
       by false = field-stays S.Misfit es (λ e. refl)
 
-  pub field-walked : (es : List PairEntry) → fieldFrom f t w S.Missing es ≡ sizedAt w (foundAt (place f (keyOf t []) es))
+  field-walked : (es : List PairEntry) → fieldFrom f t w S.Missing es ≡ sizedAt w (foundAt (place f (keyOf t []) es))
   unfolding fieldFrom fieldNoted notedAt place foundAt sizedAt
   field-walked [] = refl
   field-walked (e ∷ es) = by (field-walked es) (same (keyOf t []) (keyIn f e))

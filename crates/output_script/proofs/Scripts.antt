@@ -1,6 +1,6 @@
 -- Laws of an output's script: one for each way through the functions, one outcome, and that it is the script a transaction takes.
 use mathlib.Core.Path.{_≡_, refl, sym, _∙_, ap, ap₂, subst}
-use mathlib.Core.Bool.{Bool, true, false, _&&_}
+use mathlib.Core.Bool.{Bool, true, false, and-true}
 use mathlib.Core.List.{List, [], _∷_, map}
 use Prim.Native.Nat.{ℕ, _+_, _*_, _^_, _<_}
 use native.Mathlib.Omega.{arith}
@@ -111,10 +111,6 @@ unfolding foundAt
 looked-at (K.Refused e) s n q = let z : _≡_ {A = ℕ} 0 1 = cc in absurd (omega arith)
 looked-at K.Absent s n q = let z : _≡_ {A = ℕ} 0 1 = cc in absurd (omega arith)
 looked-at (K.At a k) s n q = let x : a ≡ s = cc in let y : k ≡ n = cc in rw (x, y)
-
-and-true : (a : Bool) → (a && true) ≡ a
-and-true true = refl
-and-true false = refl
 
 -- tests joined, and one after the other
 joined-same : {A : Type 0} (a b : Bool) (x y : A) → pick a (pick b x y) x ≡ pick (pick a b true) x y

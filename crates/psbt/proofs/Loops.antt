@@ -41,20 +41,20 @@ use Rattle.walk.specs.declared.Next.the-variants as N
 use Rattle.psbt.proofs.Leans.{walk-turn}
 use Rattle.psbt.proofs.Steps.{limit-fits}
 
--- the bytes from la up to le
-abbrev pub keyAt : List ℕ → ℕ → ℕ → List ℕ
-keyAt F la le = take (le - la) (drop la F)
+-- the bytes from la up to le: the last key, or a value
+abbrev pub between : List ℕ → ℕ → ℕ → List ℕ
+between F la le = take (le - la) (drop la F)
 
 -- what is left to give, between two maps and inside one that began at pair i
 abbrev pub atMap : List ℕ → List ℕ → List ℕ → Walk → ℕ → ℕ → ℕ → ParseOut
 atMap F P M w at p m = cutLean at p m p P M (begins (walk w [] (drop at F)))
 
 abbrev pub inMap : List ℕ → List ℕ → List ℕ → ℕ → Walk → ℕ → ℕ → ℕ → ℕ → ℕ → ParseOut
-inMap F P M m w at p la le i = cutLean at p m i P M (walk w (keyAt F la le) (drop at F))
+inMap F P M m w at p la le i = cutLean at p m i P M (walk w (between F la le) (drop at F))
 
 -- what is carried on behind the pair of an entry
 abbrev pub notedAt : List ℕ → Walk → PairEntry → Walk
-notedAt F w e = note (keyAt F (e .key) (e .key + e .klen)) (keyAt F (e .value) (e .value + e .vlen)) w
+notedAt F w e = note (between F (e .key) (e .key + e .klen)) (between F (e .value) (e .value + e .vlen)) w
 
 -- by a step
 unfoldable pub stepCut : List ℕ → List ℕ → List ℕ → ℕ → Walk → ℕ → ℕ → Step → ParseOut
@@ -180,12 +180,12 @@ module _ (F P₁ M : List ℕ) (w₁ : Walk) (at₁ p₁ m : ℕ) (P : List ℕ)
     (o : Step) (is : o ≡ stepAt (take (length F - at) (drop at F)) (take (le - la) (drop la F)) at (w .kind)) where
   here : (y : Step) → o ≡ y → inMap F P M m w at p la le p₁ ≡ stepCut F P M m w p p₁ y
   here y e =
-      turned F P M m w at p p₁ (keyAt F la le)
-      ∙ ap (stepCut F P M m w p p₁) (ap (λ (s : List ℕ). stepAt s (keyAt F la le) at (w .kind)) (sym (part-rest at F)) ∙ sym is ∙ e)
+      turned F P M m w at p p₁ (between F la le)
+      ∙ ap (stepCut F P M m w p p₁) (ap (λ (s : List ℕ). stepAt s (between F la le) at (w .kind)) (sym (part-rest at F)) ∙ sym is ∙ e)
 
   in-file : (y : Step) → o ≡ y → StepIn F at y
   in-file y e =
-      subst (StepIn F at) (ap (λ (s : List ℕ). stepAt s (keyAt F la le) at (w .kind)) (sym (part-rest at F)) ∙ sym is ∙ e) (step-in F at (w .kind) (keyAt F la le) (i .at≤))
+      subst (StepIn F at) (ap (λ (s : List ℕ). stepAt s (between F la le) at (w .kind)) (sym (part-rest at F)) ∙ sym is ∙ e) (step-in F at (w .kind) (between F la le) (i .at≤))
 
   pub over-less : (to : ℕ) → o ≡ Over to → length F - to < length F - at₁
   over-less to e = omega (arith, in-file (Over to) e, i .at₁≤)

@@ -1,4 +1,4 @@
--- A step at a place: laws for each way through it, and that a step is what the walk does there.
+-- A step at a place: laws for each way through it.
 use Prim.Native.Nat.{ℕ, _+_, _^_, _<_}
 use mathlib.Core.Path.{_≡_, sym, _∙_, ap}
 use mathlib.Core.List.{List}

@@ -1,6 +1,6 @@
 -- What the whole list answers to each question.
 use mathlib.Core.Path.{_≡_, refl, sym, _∙_, ap}
-use mathlib.Core.Bool.{Bool, true, false, _&&_}
+use mathlib.Core.Bool.{Bool, true, false, _&&_, and-assoc}
 use mathlib.Core.List.{List, [], _∷_}
 use Prim.Native.Nat.{ℕ, _+_, _≤_, _<_}
 use native.Mathlib.Numerals.{add-one}
@@ -27,10 +27,6 @@ module _ (buffer : List ℕ) (n : ℕ) (t : Task) (xs : List Assignment) (k : �
   pub tally-done : length xs ≤ k → t ≡ tallied buffer n t (drop k xs)
   unfolding tallied
   tally-done h = sym (ap (tallied buffer n t) (drop-of-length-le xs h))
-
-and-assoc : (a b c : Bool) → ((a && b) && c) ≡ (a && (b && c))
-and-assoc true b c = refl
-and-assoc false b c = refl
 
 check-from : (buffer : List ℕ) (n : ℕ) (b : Bool) (xs : List Assignment) → tallied buffer n (Check b) xs ≡ Check (b && every (allowed n buffer) xs)
 unfolding tallied noted allowedToo every

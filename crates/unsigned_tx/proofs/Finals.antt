@@ -58,7 +58,7 @@ use Rattle.unsigned_tx.proofs.Inputs.{rest-none, rest-one, rest-all, le
 use Rattle.unsigned_tx.proofs.Outputs.{length-output}
 
 -- the measure of the whole
-pub len-bad : (s : Psbt) (ins : List In) (outs : List Out) → every inputOk ins ≡ false → Refused BadValue ≡ txMeasure s ins outs
+len-bad : (s : Psbt) (ins : List In) (outs : List Out) → every inputOk ins ≡ false → Refused BadValue ≡ txMeasure s ins outs
 unfolding txMeasure
 len-bad s ins outs h = sym (rw h)
 

@@ -1,6 +1,6 @@
 -- Laws of judging and writing inputs, one for each way through the functions.
 use mathlib.Core.Path.{_≡_, refl, sym, _∙_, ap}
-use mathlib.Core.Bool.{Bool, true, false, _&&_}
+use mathlib.Core.Bool.{Bool, true, false, _&&_, and-true, and-assoc}
 use mathlib.Core.List.{List, [], _∷_, map}
 use Prim.Native.Nat.{ℕ, _+_, _-_, _*_, _^_, _≤_, _<_}
 use native.Mathlib.Omega.{arith}
@@ -115,14 +115,6 @@ pub record Surveying (f P M : List ℕ) (s : Psbt) (a : Asks) (ok : Bool) (i : �
 pub survey-first : (f P M : List ℕ) (s : Psbt) → Surveying f P M s noAsks true 0
 unfolding insOf
 survey-first f P M s = record { asked = walk-first f P M s; judged = ap (every inputOk) (rest-all (inAt f P M) (s .inputs)) }
-
-and-assoc : (a b c : Bool) → ((a && b) && c) ≡ (a && (b && c))
-and-assoc true b c = refl
-and-assoc false b c = refl
-
-and-true : (a : Bool) → (a && true) ≡ a
-and-true true = refl
-and-true false = refl
 
 module _ (f P M : List ℕ) (s : Psbt) (a : Asks) (ok : Bool) (i : ℕ) (k : Surveying f P M s a ok i) where
   pub survey-done : s .inputs ≤ i → record { asks = a; ok = ok } ≡ surveyOf (insOf f P M s)
