@@ -58,17 +58,16 @@ unfolding toldParse
 tell r P M o e = ap toldParse e
 
 module _ (F P M : List ℕ) where
-  pub too-long : 1_048_576 < length F → toldWith (toldParsed (A.Refused TooLong 0 0)) P M ≡ toldParse (parsed F P M)
-  unfolding parsed events limit cut
-  too-long h = tell _ P M _ (sym (rw (lt-leb (length F) 1_048_576 h)))
+  pub too-long : limit < length F → toldWith (toldParsed (A.Refused TooLong 0 0)) P M ≡ toldParse (parsed F P M)
+  unfolding parsed events cut
+  too-long h = tell _ P M _ (sym (rw (lt-leb (length F) limit h)))
 
-  module _ (l : length F ≤ 1_048_576) (b : Bool) (e : b ≡ same (take 5 F) magic) where
+  module _ (l : length F ≤ limit) (b : Bool) (e : b ≡ same (take 5 F) magic) where
     pub no-magic : not b ≡ true → toldWith (toldParsed (A.Refused InvalidMagic 0 0)) P M ≡ toldParse (parsed F P M)
-    unfolding parsed events limit cut
-    no-magic h = tell _ P M _ (sym (rw (le-leb (length F) 1_048_576 l, sym e ∙ not-true b h)))
+    unfolding parsed events cut
+    no-magic h = tell _ P M _ (sym (rw (le-leb (length F) limit l, sym e ∙ not-true b h)))
 
     pub in-limit : not b ≡ false → InLimit (length F)
-    unfolding limit
     in-limit h = record { magic = long; short = l }
       where
         long : 5 ≤ length F
@@ -77,9 +76,9 @@ module _ (F P M : List ℕ) where
             omega (arith, length-take 5 F)
 
     pub maps-told : not b ≡ false → (r : Parsed) (P′ M′ : List ℕ) → out r P′ M′ ≡ mapsRead F P M → toldWith (toldParsed r) P′ M′ ≡ toldParse (parsed F P M)
-    unfolding parsed events limit mapsRead lean
+    unfolding parsed events mapsRead lean
     maps-told h r P′ M′ q =
-        tell r P′ M′ _ (q ∙ sym (rw (le-leb (length F) 1_048_576 l, sym e ∙ not-false b h) (cut-lean 5 0 0 0 P M _ ∙ ap (λ x. cutLean 5 0 0 0 P M (begins x)) (maps-walked (drop 5 F)))))
+        tell r P′ M′ _ (q ∙ sym (rw (le-leb (length F) limit l, sym e ∙ not-false b h) (cut-lean 5 0 0 0 P M _ ∙ ap (λ x. cutLean 5 0 0 0 P M (begins x)) (maps-walked (drop 5 F)))))
 
 pub ruleset parses = (too-long, no-magic, in-limit, maps-told)
 
