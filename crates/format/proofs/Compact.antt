@@ -1,4 +1,4 @@
--- Laws of compact sizes: only the bytes used matter, they spell the number by themselves, and the shortest spelling is read back.
+-- Laws of compact sizes: only the bytes used matter, they spell the number by themselves, the shortest spelling is read back, and which refusals there are.
 use mathlib.Core.Path.{_≡_, _∙_}
 use mathlib.Core.List.{List, [], _∷_, _++_}
 use Prim.Native.Nat.{ℕ, suc, _+_, _^_, _≤_, _<_}
@@ -8,8 +8,9 @@ use lib.Dec.{leb, ltb, eqb}
 use lib.ListN.{length, take, length-append}
 use lib.Seq.{take-all, length-take-le, take-append-le}
 use Rattle.format.specs.Numbers.{le, bytesOf}
-use Rattle.format.specs.Compact.{long, sizeBy, size, shortest}
-use Rattle.format.specs.declared.PsbtError.the-variants.{UnexpectedEof}
+use Rattle.format.specs.Compact.{long, sizeBy, size, shortest, countBy, count}
+use Rattle.format.specs.declared.PsbtError.{PsbtError}
+use Rattle.format.specs.declared.PsbtError.the-variants.{UnexpectedEof, InvalidCompactSize}
 use Rattle.format.specs.declared.Size.{Size}
 use Rattle.format.specs.declared.Size.the-variants.{Bad, Read}
 use Rattle.format.proofs.Tests.{pick-by, pick-two}
@@ -92,3 +93,31 @@ shortest-spells n h =
 -- and is read back with what follows it left
 pub size-shortest : (n : ℕ) (r : List ℕ) → n < 2 ^ 64 → size (shortest n ++ r) ≡ Read n (length (shortest n))
 size-shortest n r h = size-more (shortest n) r n (length (shortest n)) (shortest-spells n h)
+
+-- P of the refusal, where a compact size is refused
+abbrev pub RefusedBy : (PsbtError → Type 0) → Size → Type 0
+RefusedBy P (Bad e) = P e
+RefusedBy P (Read n u) = Unit {0}
+
+-- what holds of 2 and of 3 holds of every refusal of a compact size, at the front of bytes or as a count's value
+module _ (P : PsbtError → Type 0) (eof : P UnexpectedEof) (wrong : P InvalidCompactSize) where
+  long-refused : (w : ℕ) (r : List ℕ) → RefusedBy P (long w r)
+  unfolding long
+  long-refused w r = pick-by (RefusedBy P) (leb w (length r)) _ _ (λ q. tt) (λ q. eof)
+
+  pub size-refused : (s : List ℕ) → RefusedBy P (size s)
+  unfolding size sizeBy
+  size-refused [] = eof
+  size-refused (b ∷ r) =
+      pick-by (RefusedBy P) (ltb b 0xfd) _ _ (λ q. tt)
+      (λ q. pick-by (RefusedBy P) (eqb b 0xfd) _ _ (λ t. long-refused 2 r)
+      (λ t. pick-by (RefusedBy P) (eqb b 0xfe) _ _ (λ v. long-refused 4 r) (λ v. long-refused 8 r)))
+
+  by-refused : (m : ℕ) (y : Size) → RefusedBy P y → RefusedBy P (countBy m y)
+  unfolding countBy
+  by-refused m (Read n u) h = pick-by (RefusedBy P) (eqb m u) _ _ (λ q. tt) (λ q. wrong)
+  by-refused m (Bad e) h = pick-by (RefusedBy P) (leb m 1) _ _ (λ q. h) (λ q. wrong)
+
+  pub count-refused : (v : List ℕ) → RefusedBy P (count v)
+  unfolding count
+  count-refused v = by-refused (length v) (size v) (size-refused v)

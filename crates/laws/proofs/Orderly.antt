@@ -3,10 +3,10 @@ use mathlib.Core.Path.{_≡_, refl}
 use mathlib.Core.Bool.{Bool, true, not, _&&_, _||_}
 use mathlib.Core.List.{List, [], _∷_}
 use Prim.Native.Nat.{ℕ, zero, suc}
-use lib.Dec.{leb, ltb, eqb}
+use lib.Dec.{leb, eqb}
 use lib.ListN.{length, take, drop}
 use Rattle.format.specs.Refusals.{numberOf}
-use Rattle.format.specs.Compact.{long, sizeBy, size, countBy, count}
+use Rattle.format.specs.Compact.{size, count}
 use Rattle.format.specs.Keys.{typeOf, dataOf, order, same}
 use Rattle.format.specs.Rules.{GLOBAL, INPUT, OUTPUT, span, within, valueFits, isRow, rowRule, sizedTypes, sizesIn, sizes, countRule, bareRule, andThen, rule}
 use Rattle.format.specs.Content.{Pair, Map, magic, field, present, number, globalRule, modifiable, outputBy, outputRule, outputsRule}
@@ -20,6 +20,7 @@ use Rattle.format.specs.declared.Ruled.{Ruled}
 use Rattle.format.specs.declared.Ruled.the-variants.{Passed, Refused}
 use Rattle.format.specs.declared.SizedType.{SizedType}
 use Rattle.format.proofs.Tests.{pick-by}
+use Rattle.format.proofs.Compact.{RefusedBy, size-refused, count-refused}
 use Rattle.laws.specs.Given.{given, ofFile}
 
 abbrev OfFile : PsbtError → Type 0
@@ -27,35 +28,26 @@ OfFile e = ofFile e ≡ true
 
 -- compact sizes and rules
 abbrev SizeOf : Size → Type 0
-SizeOf (Bad e) = OfFile e
-SizeOf (Read n u) = Unit {0}
+SizeOf y = RefusedBy OfFile y
 
 abbrev RuledOf : Ruled → Type 0
 RuledOf Passed = Unit {0}
 RuledOf (Refused e) = OfFile e
 
-long-of : (w : ℕ) (r : List ℕ) → SizeOf (long w r)
-unfolding long ofFile given within span numberOf
-long-of w r = pick-by SizeOf (leb w (length r)) _ _ (λ q. tt) (λ q. refl)
-
 size-of : (s : List ℕ) → SizeOf (size s)
-unfolding size sizeBy ofFile given within span numberOf
-size-of [] = refl
-size-of (b ∷ r) =
-    pick-by SizeOf (ltb b 0xfd) _ _ (λ q. tt)
-    (λ q. pick-by SizeOf (eqb b 0xfd) _ _ (λ t. long-of 2 r)
-    (λ t. pick-by SizeOf (eqb b 0xfe) _ _ (λ v. long-of 4 r) (λ v. long-of 8 r)))
+unfolding ofFile given within span numberOf
+size-of s = size-refused OfFile refl refl s
 
-count-of : (m : ℕ) (y : Size) → SizeOf y → RuledOf (countRule (countBy m y))
-unfolding countBy countRule ofFile given within span numberOf
-count-of m (Read n u) h = pick-by (λ (x : Size). RuledOf (countRule x)) (eqb m u) _ _ (λ q. tt) (λ q. refl)
-count-of m (Bad e) h = pick-by (λ (x : Size). RuledOf (countRule x)) (leb m 1) _ _ (λ q. h) (λ q. refl)
+count-of : (y : Size) → SizeOf y → RuledOf (countRule y)
+unfolding countRule
+count-of (Read n u) h = tt
+count-of (Bad e) h = h
 
 bare-of : (t : ℕ) (v : List ℕ) → RuledOf (bareRule t v)
-unfolding bareRule count ofFile given within span numberOf
+unfolding bareRule ofFile given within span numberOf
 bare-of t v =
     pick-by RuledOf (eqb t 0x00) _ _ (λ q. refl)
-    (λ q. pick-by RuledOf (eqb t 0x04 || eqb t 0x05) _ _ (λ w. count-of (length v) (size v) (size-of v)) (λ w. tt))
+    (λ q. pick-by RuledOf (eqb t 0x04 || eqb t 0x05) _ _ (λ w. count-of (count v) (count-refused OfFile refl refl v)) (λ w. tt))
 
 sizes-of : (rs : List SizedType) (k t n m : ℕ) → RuledOf (sizesIn rs k t n m)
 unfolding sizesIn rowRule ofFile given within span numberOf
