@@ -5,6 +5,7 @@ pub mod Rooms
 pub mod Parsed
 pub mod Shown
 pub mod Given
+pub mod Prefixes
 pub mod Listings
 pub mod Found
 pub mod Rises
