@@ -7,7 +7,7 @@ use native.Mathlib.Omega.{arith}
 use lib.ListN.{length, length-append, length-map}
 use Rattle.format.specs.Tests.{keepIf, only}
 use Rattle.format.specs.Keys.{typeOf, keyOf, order}
-use Rattle.format.specs.Rules.{GLOBAL, INPUT, OUTPUT, span, within, listedTypes, listed}
+use Rattle.format.specs.Rules.{rule, GLOBAL, INPUT, OUTPUT, span, within, listedTypes, listed}
 use Rattle.format.specs.Content.{Pair, Map, Content, pairBytes, pairsBytes, mapBytes, mapsBytes, bytes, field, counted, modifiable, outputsRule}
 use Rattle.format.specs.Reading.{limit, accepted, reading}
 use Rattle.format.specs.declared.Order.the-variants.{Below}
@@ -43,13 +43,13 @@ unfolding strike only
 rises-strike k last [] h = tt
 rises-strike k last (p ∷ ps) h = rises-keep last (listed k (p .key)) p (strike k ps) (h .0) (rises-strike k (p .key) ps (h .1))
 
-map-down : (k : ℕ) (m : Map) → FineMap k m → FineMap k (strikeMap k m)
+map-down : (k : ℕ) (m : Map) → FineMap (rule k) m → FineMap (rule k) (strikeMap k m)
 unfolding strikeMap
 map-down k m h = record {
   pairs = record {
     framed = all-strike Framed k (m .pairs) (h .pairs .framed);
     rises = rises-strike k [] (m .pairs) (h .pairs .rises);
-    keeps = all-strike (Keeps k) k (m .pairs) (h .pairs .keeps);
+    keeps = all-strike (Keeps (rule k)) k (m .pairs) (h .pairs .keeps);
   };
   end = h .end;
 }
@@ -92,8 +92,8 @@ pub down : (c : Content) → FineFile c → FineFile (struck c)
 unfolding struck strikeMap listed typeOf keyOf within listedTypes span
 down c h = record {
   global = map-down GLOBAL (c .global) (h .global);
-  ins = all-map (FineMap INPUT) (FineMap INPUT) (strikeMap INPUT) (map-down INPUT) (c .ins) (h .ins);
-  outs = all-map (FineMap OUTPUT) (FineMap OUTPUT) (strikeMap OUTPUT) (map-down OUTPUT) (c .outs) (h .outs);
+  ins = all-map (FineMap (rule INPUT)) (FineMap (rule INPUT)) (strikeMap INPUT) (map-down INPUT) (c .ins) (h .ins);
+  outs = all-map (FineMap (rule OUTPUT)) (FineMap (rule OUTPUT)) (strikeMap OUTPUT) (map-down OUTPUT) (c .outs) (h .outs);
   rule = global-strike (c .global .pairs) ∙ h .rule;
   ins# = length-map (c .ins) (strikeMap INPUT) ∙ h .ins# ∙ sym (ap counted (field-strike GLOBAL 0x04 (c .global .pairs) refl));
   outs# = length-map (c .outs) (strikeMap OUTPUT) ∙ h .outs# ∙ sym (ap counted (field-strike GLOBAL 0x05 (c .global .pairs) refl));
@@ -113,20 +113,20 @@ record FramedFile (c : Content) : Type 0 where
   pub ins : All FramedMap (c .ins)
   pub outs : All FramedMap (c .outs)
 
-keeps-keep : (k : ℕ) (t : Bool) (p : Pair) (ps qs : List Pair) → listed k (p .key) ≡ t → (All (Keeps k) qs → All (Keeps k) ps) → All (Keeps k) (keepIf t p qs) → All (Keeps k) (p ∷ ps)
+keeps-keep : (k : ℕ) (t : Bool) (p : Pair) (ps qs : List Pair) → listed k (p .key) ≡ t → (All (Keeps (rule k)) qs → All (Keeps (rule k)) ps) → All (Keeps (rule k)) (keepIf t p qs) → All (Keeps (rule k)) (p ∷ ps)
 keeps-keep k true p ps qs e h a = (a .0, h (a .1))
 keeps-keep k false p ps qs e h a = (rule-free k (p .key) (p .value) e, h a)
 
-keeps-up : (k : ℕ) (ps : List Pair) → All (Keeps k) (strike k ps) → All (Keeps k) ps
+keeps-up : (k : ℕ) (ps : List Pair) → All (Keeps (rule k)) (strike k ps) → All (Keeps (rule k)) ps
 unfolding strike only
 keeps-up k [] a = tt
 keeps-up k (p ∷ ps) a = keeps-keep k (listed k (p .key)) p ps (strike k ps) refl (keeps-up k ps) a
 
-map-up : (k : ℕ) (m : Map) → FineMap k (strikeMap k m) → FramedMap m → RisesMap m → FineMap k m
+map-up : (k : ℕ) (m : Map) → FineMap (rule k) (strikeMap k m) → FramedMap m → RisesMap m → FineMap (rule k) m
 unfolding strikeMap
 map-up k m h f r = record { pairs = record { framed = f .0; rises = r; keeps = keeps-up k (m .pairs) (h .pairs .keeps) }; end = f .1 }
 
-maps-up : (k : ℕ) (ms : List Map) → All (FineMap k) (map (strikeMap k) ms) → All FramedMap ms → All RisesMap ms → All (FineMap k) ms
+maps-up : (k : ℕ) (ms : List Map) → All (FineMap (rule k)) (map (strikeMap k) ms) → All FramedMap ms → All RisesMap ms → All (FineMap (rule k)) ms
 maps-up k [] h f r = tt
 maps-up k (m ∷ ms) h f r = (map-up k m (h .0) (f .0) (r .0), maps-up k ms (h .1) (f .1) (r .1))
 
@@ -184,10 +184,10 @@ added-framed k ps qs nil h = tt
 added-framed k ps qs (keep p xs ys a) h = (h .0, added-framed k xs ys a (h .1))
 added-framed k ps qs (add p xs ys f u a) h = (f, added-framed k xs ys a h)
 
-map-framed : (k : ℕ) (m n : Map) → AddedMap k m n → FineMap k m → FramedMap n
+map-framed : (k : ℕ) (m n : Map) → AddedMap k m n → FineMap (rule k) m → FramedMap n
 map-framed k m n a h = (added-framed k (m .pairs) (n .pairs) (a .pairs) (h .pairs .framed), subst (λ (e : List ℕ). Spells e 0) (a .end) (h .end))
 
-maps-framed : (k : ℕ) (ms ns : List Map) → AddedMaps k ms ns → All (FineMap k) ms → All FramedMap ns
+maps-framed : (k : ℕ) (ms ns : List Map) → AddedMaps k ms ns → All (FineMap (rule k)) ms → All FramedMap ns
 maps-framed k ms ns nils h = tt
 maps-framed k ms ns (maps m n xs ys a b) h = (map-framed k m n a (h .0), maps-framed k xs ys b (h .1))
 
@@ -220,11 +220,11 @@ unfolding strike only
 added-back k [] f = nil
 added-back k (p ∷ ps) f = added-keep k (listed k (p .key)) p ps (strike k ps) refl (f .0) (added-back k ps (f .1))
 
-map-back : (k : ℕ) (m : Map) → FineMap k m → AddedMap k (strikeMap k m) m
+map-back : (k : ℕ) (m : Map) → FineMap (rule k) m → AddedMap k (strikeMap k m) m
 unfolding strikeMap
 map-back k m h = record { pairs = added-back k (m .pairs) (h .pairs .framed); end = refl }
 
-maps-back : (k : ℕ) (ms : List Map) → All (FineMap k) ms → AddedMaps k (map (strikeMap k) ms) ms
+maps-back : (k : ℕ) (ms : List Map) → All (FineMap (rule k)) ms → AddedMaps k (map (strikeMap k) ms) ms
 maps-back k [] h = nils
 maps-back k (m ∷ ms) h = maps (strikeMap k m) m (map (strikeMap k) ms) ms (map-back k m (h .0)) (maps-back k ms (h .1))
 

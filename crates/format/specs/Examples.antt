@@ -12,7 +12,7 @@ use Rattle.format.specs.Compact.{long, sizeBy, size, shortest, countBy, 
 use Rattle.format.specs.Keys.{typeOf, dataOf, keyOf, order, isBelow, isSame, below, same}
 use Rattle.format.specs.Rules.{span, within, listedTypes, sizedTypes, valueFits, isRow, rowRule, sizesIn, sizes, countRule, bareRule, andThen, rule}
 use Rattle.format.specs.Content.{magic, find, field, present, number, maybe, sizeValue, counted, psbtOf, globalRule, modifiable, outputBy, outputRule, outputsRule}
-use Rattle.format.specs.Reading.{limit, ruled, valued, risen, keyed, itemBy, item, front, turn, items, mapped, pairEvents, mapEvents, mapsEvents, unless, lastly, globalThen, events}
+use Rattle.format.specs.Reading.{limit, ruled, valued, risen, keyed, itemBy, item, front, turn, items, mapped, pairEvents, mapEvents, mapsEvents, unless, lastly, globalThen, eventsOf, events}
 use Rattle.format.specs.Entries.{hasRoom, pairEntryWords, mapEntryWords, putPair, putMap, pairEntries, mapEntries, entryOf, width, keyIn, valueIn, shown}
 use Rattle.format.specs.Parse.{ParseOut, out, cut, parsed}
 use Rattle.format.specs.Tables.{inFile, fit, fitted, heldBy, mapsReported, held, viewOf, view, gatherBy, gather}
@@ -164,7 +164,7 @@ proved =
 
 -- all that a file's reading and its transaction are made of
 unfoldable pub computes : List ℕ → Told
-unfolding numberOf only every le bytesOf signed unsigned long sizeBy size shortest countBy count typeOf dataOf keyOf order isBelow isSame below same valueFits isRow rowRule sizesIn sizes countRule bareRule andThen rule find field present number maybe sizeValue counted psbtOf globalRule modifiable outputBy outputRule outputsRule limit ruled valued risen keyed itemBy item front turn items mapped pairEvents mapEvents mapsEvents unless lastly globalThen events hasRoom pairEntryWords mapEntryWords putPair putMap pairEntries mapEntries entryOf width keyIn valueIn shown cut parsed inFile fit fitted heldBy mapsReported held viewOf view gatherBy gather sizedTo inOf askedBy along heights times isMisfit misfitBy misfits greatest heightLock timeLock orZero decideBy wellFormed decide lockOf outOf reportedBy reported taproot entryFits scriptsFit tableFits setSoFar setScript scriptOf ahead needs orFinal inputThen inputsThen needsScript outputThen outputsThen txWith txBy transaction txReported written unsignedTx toldTx toldBy told
+unfolding numberOf only every le bytesOf signed unsigned long sizeBy size shortest countBy count typeOf dataOf keyOf order isBelow isSame below same valueFits isRow rowRule sizesIn sizes countRule bareRule andThen rule find field present number maybe sizeValue counted psbtOf globalRule modifiable outputBy outputRule outputsRule limit ruled valued risen keyed itemBy item front turn items mapped pairEvents mapEvents mapsEvents unless lastly globalThen eventsOf events hasRoom pairEntryWords mapEntryWords putPair putMap pairEntries mapEntries entryOf width keyIn valueIn shown cut parsed inFile fit fitted heldBy mapsReported held viewOf view gatherBy gather sizedTo inOf askedBy along heights times isMisfit misfitBy misfits greatest heightLock timeLock orZero decideBy wellFormed decide lockOf outOf reportedBy reported taproot entryFits scriptsFit tableFits setSoFar setScript scriptOf ahead needs orFinal inputThen inputsThen needsScript outputThen outputsThen txWith txBy transaction txReported written unsignedTx toldTx toldBy told
 computes = told
 
 -- the proved examples hold

@@ -21,6 +21,10 @@ use Rattle.format.specs.declared.Ruled.the-variants.{Passed, Refused}
 unfoldable pub limit : ℕ
 limit = 1_048_576
 
+-- what is asked of a pair by itself: of its key and its value
+abbrev pub FieldRule : Type 0
+FieldRule = List ℕ → List ℕ → Ruled
+
 -- what stands where a pair may begin: a refusal; the map's end, its bytes and what is left; a pair and what is left
 pub data Item : Type 0 where
   stop : PsbtError → Item
@@ -33,31 +37,31 @@ ruled p r Passed = one p r
 ruled p r (Refused e) = stop e
 
 -- a value in front of r, by its length
-unfoldable pub valued : ℕ → List ℕ → List ℕ → List ℕ → Size → Item
-valued k a key r (Bad e) = stop e
-valued k a key r (Read n u) =
+unfoldable pub valued : FieldRule → List ℕ → List ℕ → List ℕ → Size → Item
+valued ρ a key r (Bad e) = stop e
+valued ρ a key r (Read n u) =
     pick (leb n (length (drop u r)))
-    (ruled (record { klen = a; key = key; vlen = take u r; value = take n (drop u r) }) (drop n (drop u r)) (rule k key (take n (drop u r))))
+    (ruled (record { klen = a; key = key; vlen = take u r; value = take n (drop u r) }) (drop n (drop u r)) (ρ key (take n (drop u r))))
     (stop UnexpectedEof)
 
 -- a key in front of r, by the order of the last key to it: the order is tested before the value is read
-unfoldable pub risen : ℕ → List ℕ → List ℕ → List ℕ → Order → Item
-risen k a key r Below = valued k a key r (size r)
-risen k a key r Same = stop DuplicateKey
-risen k a key r Above = stop UnsortedKeys
+unfoldable pub risen : FieldRule → List ℕ → List ℕ → List ℕ → Order → Item
+risen ρ a key r Below = valued ρ a key r (size r)
+risen ρ a key r Same = stop DuplicateKey
+risen ρ a key r Above = stop UnsortedKeys
 
 -- n bytes of a key in front of r, behind its length's bytes a
-unfoldable pub keyed : ℕ → List ℕ → List ℕ → ℕ → List ℕ → Item
-keyed k last a n r = pick (leb n (length r)) (risen k a (take n r) (drop n r) (order last (take n r))) (stop UnexpectedEof)
+unfoldable pub keyed : FieldRule → List ℕ → List ℕ → ℕ → List ℕ → Item
+keyed ρ last a n r = pick (leb n (length r)) (risen ρ a (take n r) (drop n r) (order last (take n r))) (stop UnexpectedEof)
 
 -- an item in front of s, by the key's length: 0 ends the map
-unfoldable pub itemBy : ℕ → List ℕ → List ℕ → Size → Item
-itemBy k last s (Bad e) = stop e
-itemBy k last s (Read n u) = pick (eqb n 0) (over (take u s) (drop u s)) (keyed k last (take u s) n (drop u s))
+unfoldable pub itemBy : FieldRule → List ℕ → List ℕ → Size → Item
+itemBy ρ last s (Bad e) = stop e
+itemBy ρ last s (Read n u) = pick (eqb n 0) (over (take u s) (drop u s)) (keyed ρ last (take u s) n (drop u s))
 
--- the item in front of s, in a map of kind k whose last key is `last` (empty before its first)
-unfoldable pub item : ℕ → List ℕ → List ℕ → Item
-item k last s = itemBy k last s (size s)
+-- the item in front of s, in a map of field rule ρ whose last key is `last` (empty before its first)
+unfoldable pub item : FieldRule → List ℕ → List ℕ → Item
+item ρ last s = itemBy ρ last s (size s)
 
 -- a map that is read: its pairs, its end's bytes and what is left; or its pairs up to a refusal
 pub data Mapped : Type 0 where
@@ -76,13 +80,13 @@ turn j (over a r) = ends [] a r
 turn j (one p r) = front p (j (p .key) r)
 
 -- item after item, at most n of them
-unfoldable pub items : ℕ → ℕ → List ℕ → List ℕ → Mapped
-items zero k last s = stops [] UnexpectedEof
-items (suc n) k last s = turn (items n k) (item k last s)
+unfoldable pub items : ℕ → FieldRule → List ℕ → List ℕ → Mapped
+items zero ρ last s = stops [] UnexpectedEof
+items (suc n) ρ last s = turn (items n ρ) (item ρ last s)
 
 -- the map in front of s: an item takes a byte, so there are no more items than bytes
-unfoldable pub mapped : ℕ → List ℕ → Mapped
-mapped k s = items (suc (length s)) k [] s
+unfoldable pub mapped : FieldRule → List ℕ → Mapped
+mapped ρ s = items (suc (length s)) ρ [] s
 
 -- what happens in a file: maps begin, pairs pass, maps end; last a refusal, or the content
 pub data Reading : Type 0 where
@@ -102,33 +106,63 @@ unfoldable pub mapEvents : (Map → List ℕ → Reading) → Mapped → Reading
 mapEvents j (stops ps e) = pairEvents ps (refusal e)
 mapEvents j (ends ps a r) = pairEvents ps (ended a (j (record { pairs = ps; end = a }) r))
 
--- in n maps of kind k, each read from where the one before it ended, and then j of them and what is left
-unfoldable pub mapsEvents : ℕ → ℕ → List ℕ → (List Map → List ℕ → Reading) → Reading
-mapsEvents k zero s j = j [] s
-mapsEvents k (suc n) s j = begins (mapEvents (λ m r. mapsEvents k n r (λ ms q. j (m ∷ ms) q)) (mapped k s))
+-- in n maps of field rule ρ, each read from where the one before it ended, and then j of them and what is left
+unfoldable pub mapsEvents : FieldRule → ℕ → List ℕ → (List Map → List ℕ → Reading) → Reading
+mapsEvents ρ zero s j = j [] s
+mapsEvents ρ (suc n) s j = begins (mapEvents (λ m r. mapsEvents ρ n r (λ ms q. j (m ∷ ms) q)) (mapped ρ s))
 
 -- go on where a rule passes
 unfoldable pub unless : Ruled → Reading → Reading
 unless Passed t = t
 unless (Refused e) t = refusal e
 
--- after all maps: nothing is left over, and then the output rules
-unfoldable pub lastly : Map → List Map → List Map → List ℕ → Reading
-lastly g is os [] = unless (outputsRule (modifiable (field 0x06 (g .pairs))) os) (done (record { global = g; ins = is; outs = os }))
-lastly g is os (x ∷ r) = refusal UnexpectedEof
+-- a version of the format
+pub record Version : Type 0 where
+  -- the field rules of the pairs of its maps
+  pub global : FieldRule
+  pub input : FieldRule
+  pub output : FieldRule
+  -- the rule of the global map, asked where that map ends
+  pub early : List Pair → Ruled
+  -- how many inputs and outputs follow, by the global map
+  pub inputs : List Pair → ℕ
+  pub outputs : List Pair → ℕ
+  -- the rule of the outputs, by the global map, asked after all maps
+  pub late : List Pair → List Map → Ruled
+
+-- version 2
+abbrev pub two : Version
+two = record {
+  global = rule GLOBAL;
+  input = rule INPUT;
+  output = rule OUTPUT;
+  early = globalRule;
+  inputs = λ g. counted (field 0x04 g);
+  outputs = λ g. counted (field 0x05 g);
+  late = λ g os. outputsRule (modifiable (field 0x06 g)) os;
+}
+
+-- after all maps: nothing is left over, and then the outputs' rule
+unfoldable pub lastly : Version → Map → List Map → List Map → List ℕ → Reading
+lastly v g is os [] = unless (v .late (g .pairs) os) (done (record { global = g; ins = is; outs = os }))
+lastly v g is os (x ∷ r) = refusal UnexpectedEof
 
 -- after the global map: its rule, then as many inputs and outputs as it counts
-unfoldable pub globalThen : Map → List ℕ → Reading
-globalThen g r =
-    unless (globalRule (g .pairs))
-    (mapsEvents INPUT (counted (field 0x04 (g .pairs))) r (λ is q. mapsEvents OUTPUT (counted (field 0x05 (g .pairs))) q (λ os x. lastly g is os x)))
+unfoldable pub globalThen : Version → Map → List ℕ → Reading
+globalThen v g r =
+    unless (v .early (g .pairs))
+    (mapsEvents (v .input) (v .inputs (g .pairs)) r (λ is q. mapsEvents (v .output) (v .outputs (g .pairs)) q (λ os x. lastly v g is os x)))
 
--- in a file: its length, its magic, its maps
-unfoldable pub events : List ℕ → Reading
-events f =
+-- in a file of a version: its length, its magic, its maps
+unfoldable pub eventsOf : Version → List ℕ → Reading
+eventsOf v f =
     pick (leb (length f) limit)
-    (pick (same (take 5 f) magic) (begins (mapEvents globalThen (mapped GLOBAL (drop 5 f)))) (refusal InvalidMagic))
+    (pick (same (take 5 f) magic) (begins (mapEvents (globalThen v) (mapped (v .global) (drop 5 f)))) (refusal InvalidMagic))
     (refusal TooLong)
+
+-- in a file of version 2
+unfoldable pub events : List ℕ → Reading
+events f = eventsOf two f
 
 -- the verdict
 pub data Verdict : Type 0 where
@@ -143,6 +177,10 @@ outcome (begins r) = outcome r
 outcome (pair p r) = outcome r
 outcome (ended a r) = outcome r
 
--- the verdict on a file
+-- the verdict on a file of a version
+unfoldable pub readingOf : Version → List ℕ → Verdict
+readingOf v f = outcome (eventsOf v f)
+
+-- the verdict on a file of version 2
 unfoldable pub reading : List ℕ → Verdict
 reading f = outcome (events f)

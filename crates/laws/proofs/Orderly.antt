@@ -10,7 +10,7 @@ use Rattle.format.specs.Compact.{size, count}
 use Rattle.format.specs.Keys.{typeOf, dataOf, order, same}
 use Rattle.format.specs.Rules.{GLOBAL, INPUT, OUTPUT, span, within, valueFits, isRow, rowRule, sizedTypes, sizesIn, sizes, countRule, bareRule, andThen, rule}
 use Rattle.format.specs.Content.{Pair, Map, magic, field, present, number, globalRule, modifiable, outputBy, outputRule, outputsRule}
-use Rattle.format.specs.Reading.{limit, Item, stop, over, one, ruled, valued, risen, keyed, itemBy, item, Mapped, ends, stops, front, turn, items, mapped, Reading, done, refusal, begins, pair, ended, pairEvents, mapEvents, mapsEvents, unless, lastly, globalThen, events}
+use Rattle.format.specs.Reading.{limit, FieldRule, Item, stop, over, one, ruled, valued, risen, keyed, itemBy, item, Mapped, ends, stops, front, turn, items, mapped, Reading, done, refusal, begins, pair, ended, pairEvents, mapEvents, mapsEvents, unless, two, lastly, globalThen, eventsOf, events}
 use Rattle.format.specs.declared.PsbtError.{PsbtError}
 use Rattle.format.specs.declared.Size.{Size}
 use Rattle.format.specs.declared.Size.the-variants.{Bad, Read}
@@ -99,28 +99,6 @@ unfolding ruled
 ruled-of p r Passed h = tt
 ruled-of p r (Refused e) h = h
 
-valued-of : (k : ℕ) (a key r : List ℕ) (y : Size) → SizeOf y → ItemOf (valued k a key r y)
-unfolding valued ofFile given within span numberOf
-valued-of k a key r (Bad e) h = h
-valued-of k a key r (Read n u) h = pick-by ItemOf (leb n (length (drop u r))) _ _ (λ q. ruled-of _ _ _ (rule-of k key (take n (drop u r)))) (λ q. refl)
-
-risen-of : (k : ℕ) (a key r : List ℕ) (o : Order) → ItemOf (risen k a key r o)
-unfolding risen ofFile given within span numberOf
-risen-of k a key r Below = valued-of k a key r (size r) (size-of r)
-risen-of k a key r Same = refl
-risen-of k a key r Above = refl
-
-by-size : (k : ℕ) (last s : List ℕ) (y : Size) → SizeOf y → ItemOf (itemBy k last s y)
-unfolding itemBy keyed ofFile given within span numberOf
-by-size k last s (Bad e) h = h
-by-size k last s (Read n u) h =
-    pick-by ItemOf (eqb n 0) _ _ (λ q. tt)
-    (λ q. pick-by ItemOf (leb n (length (drop u s))) _ _ (λ w. risen-of k _ _ _ (order last (take n (drop u s)))) (λ w. refl))
-
-item-of : (k : ℕ) (last s : List ℕ) → ItemOf (item k last s)
-unfolding item
-item-of k last s = by-size k last s (size s) (size-of s)
-
 abbrev MappedOf : Mapped → Type 0
 MappedOf (ends ps a r) = Unit {0}
 MappedOf (stops ps e) = OfFile e
@@ -136,10 +114,34 @@ turn-of j h (stop e) i = i
 turn-of j h (over a r) i = tt
 turn-of j h (one p r) i = front-of p (j (p .key) r) (h (p .key) r)
 
-items-of : (n k : ℕ) (last s : List ℕ) → MappedOf (items n k last s)
-unfolding items ofFile given within span numberOf
-items-of zero k last s = refl
-items-of (suc n) k last s = turn-of (items n k) (λ l t. items-of n k l t) (item k last s) (item-of k last s)
+-- under a field rule whose refusals a file gives
+module _ (ρ : FieldRule) (of : (key v : List ℕ) → RuledOf (ρ key v)) where
+  valued-of : (a key r : List ℕ) (y : Size) → SizeOf y → ItemOf (valued ρ a key r y)
+  unfolding valued ofFile given within span numberOf
+  valued-of a key r (Bad e) h = h
+  valued-of a key r (Read n u) h = pick-by ItemOf (leb n (length (drop u r))) _ _ (λ q. ruled-of _ _ _ (of key (take n (drop u r)))) (λ q. refl)
+
+  risen-of : (a key r : List ℕ) (o : Order) → ItemOf (risen ρ a key r o)
+  unfolding risen ofFile given within span numberOf
+  risen-of a key r Below = valued-of a key r (size r) (size-of r)
+  risen-of a key r Same = refl
+  risen-of a key r Above = refl
+
+  by-size : (last s : List ℕ) (y : Size) → SizeOf y → ItemOf (itemBy ρ last s y)
+  unfolding itemBy keyed ofFile given within span numberOf
+  by-size last s (Bad e) h = h
+  by-size last s (Read n u) h =
+      pick-by ItemOf (eqb n 0) _ _ (λ q. tt)
+      (λ q. pick-by ItemOf (leb n (length (drop u s))) _ _ (λ w. risen-of _ _ _ (order last (take n (drop u s)))) (λ w. refl))
+
+  item-of : (last s : List ℕ) → ItemOf (item ρ last s)
+  unfolding item
+  item-of last s = by-size last s (size s) (size-of s)
+
+  items-of : (n : ℕ) (last s : List ℕ) → MappedOf (items n ρ last s)
+  unfolding items ofFile given within span numberOf
+  items-of zero last s = refl
+  items-of (suc n) last s = turn-of (items n ρ) (λ l t. items-of n l t) (item ρ last s) (item-of last s)
 
 -- a reading before which o maps stand begun, none or one
 abbrev pub Orderly : ℕ → Reading → Type 0
@@ -161,30 +163,33 @@ unfolding mapEvents
 map-orderly j h (stops ps e) i = pairs-orderly ps 1 (refusal e) i
 map-orderly j h (ends ps a r) i = pairs-orderly ps 1 (ended a (j (record { pairs = ps; end = a }) r)) (h (record { pairs = ps; end = a }) r)
 
-maps-orderly : (k n : ℕ) (s : List ℕ) (j : List Map → List ℕ → Reading) → ((ms : List Map) (r : List ℕ) → Orderly 0 (j ms r)) → Orderly 0 (mapsEvents k n s j)
+maps-orderly : (ρ : FieldRule) → ((key v : List ℕ) → RuledOf (ρ key v)) → (n : ℕ) (s : List ℕ) (j : List Map → List ℕ → Reading)
+    → ((ms : List Map) (r : List ℕ) → Orderly 0 (j ms r)) → Orderly 0 (mapsEvents ρ n s j)
 unfolding mapsEvents mapped
-maps-orderly k zero s j h = h [] s
-maps-orderly k (suc n) s j h =
-    map-orderly _ (λ m r. maps-orderly k n r (λ ms q. j (m ∷ ms) q) (λ ms q. h (m ∷ ms) q)) (mapped k s) (items-of (suc (length s)) k [] s)
+maps-orderly ρ of zero s j h = h [] s
+maps-orderly ρ of (suc n) s j h =
+    map-orderly _ (λ m r. maps-orderly ρ of n r (λ ms q. j (m ∷ ms) q) (λ ms q. h (m ∷ ms) q)) (mapped ρ s) (items-of ρ of (suc (length s)) [] s)
 
 unless-orderly : (y : Ruled) (t : Reading) → RuledOf y → Orderly 0 t → Orderly 0 (unless y t)
 unfolding unless
 unless-orderly Passed t h i = i
 unless-orderly (Refused e) t h i = h
 
-lastly-orderly : (g : Map) (is os : List Map) (q : List ℕ) → Orderly 0 (lastly g is os q)
+lastly-orderly : (g : Map) (is os : List Map) (q : List ℕ) → Orderly 0 (lastly two g is os q)
 unfolding lastly ofFile given within span numberOf
 lastly-orderly g is os [] = unless-orderly _ _ (outputs-of (modifiable (field 0x06 (g .pairs))) os) refl
 lastly-orderly g is os (x ∷ q) = refl
 
-global-orderly : (g : Map) (r : List ℕ) → Orderly 0 (globalThen g r)
+global-orderly : (g : Map) (r : List ℕ) → Orderly 0 (globalThen two g r)
 unfolding globalThen
 global-orderly g r =
-    unless-orderly _ _ (global-of (g .pairs)) (maps-orderly INPUT _ r _ (λ is q. maps-orderly OUTPUT _ q _ (λ os x. lastly-orderly g is os x)))
+    unless-orderly _ _ (global-of (g .pairs))
+    (maps-orderly (two .input) (rule-of INPUT) _ r _ (λ is q. maps-orderly (two .output) (rule-of OUTPUT) _ q _ (λ os x. lastly-orderly g is os x)))
 
 pub events-orderly : (f : List ℕ) → Orderly 0 (events f)
-unfolding events mapped ofFile given within span numberOf
+unfolding events eventsOf mapped ofFile given within span numberOf
 events-orderly f =
     pick-by (Orderly 0) (leb (length f) limit) _ _
-    (λ q. pick-by (Orderly 0) (same (take 5 f) magic) _ _ (λ w. map-orderly globalThen global-orderly _ (items-of _ GLOBAL [] (drop 5 f))) (λ w. refl))
+    (λ q. pick-by (Orderly 0) (same (take 5 f) magic) _ _
+    (λ w. map-orderly (globalThen two) global-orderly _ (items-of (two .global) (rule-of GLOBAL) _ [] (drop 5 f))) (λ w. refl))
     (λ q. refl)

@@ -10,9 +10,8 @@ use lib.ListN.{length, take, drop, length-append, length-drop}
 use lib.Seq.{take-append-seam, drop-append-seam, take-at, drop-at, drop-drop}
 use Rattle.format.specs.Tests.{every}
 use Rattle.format.specs.Keys.{below, isBelow}
-use Rattle.format.specs.Rules.{GLOBAL, INPUT, OUTPUT}
 use Rattle.format.specs.Content.{Pair, Map, Content, mapsOf, magic, pairBytes, pairsBytes, mapBytes, mapsBytes, bytes, psbtOf}
-use Rattle.format.specs.Reading.{accepted, reading}
+use Rattle.format.specs.Reading.{FieldRule, two, accepted, reading}
 use Rattle.format.specs.Entries.{pairEntryWords, mapEntryWords, pairEntries, mapEntries, entryOf, width, keyIn, valueIn, shown}
 use Rattle.format.specs.Tables.{inFile, fit, Held, no, holds, fitted, heldBy, mapsReported, held, View, shows, viewOf, view}
 use Rattle.format.specs.declared.PsbtError.the-variants.{OutOfRange}
@@ -171,17 +170,17 @@ file-here : (f : List ℕ) (c : Content) → bytes c ≡ f → drop (length magi
 unfolding bytes mapsOf mapsBytes
 file-here f c e = ap (drop (length magic)) (sym e) ∙ ap (mapBytes (c .global)) (sym (mapsBytes-append (c .ins) (c .outs) []))
 
-good-map : (k : ℕ) (m : Map) → FineMap k m → Good m
-good-map k m h = (h .pairs .framed, h .pairs .rises)
+good-map : (ρ : FieldRule) (m : Map) → FineMap ρ m → Good m
+good-map ρ m h = (h .pairs .framed, h .pairs .rises)
 
-good-maps : (k : ℕ) (ms ns : List Map) → All (FineMap k) ms → All Good ns → All Good (ms ++ ns)
-good-maps k [] ns h g = g
-good-maps k (m ∷ ms) ns h g = (good-map k m (h .0), good-maps k ms ns (h .1) g)
+good-maps : (ρ : FieldRule) (ms ns : List Map) → All (FineMap ρ) ms → All Good ns → All Good (ms ++ ns)
+good-maps ρ [] ns h g = g
+good-maps ρ (m ∷ ms) ns h g = (good-map ρ m (h .0), good-maps ρ ms ns (h .1) g)
 
 all-good : (c : Content) → FineFile c → All Good (mapsOf c)
 unfolding mapsOf
 all-good c h =
-    (good-map GLOBAL (c .global) (h .global), good-maps INPUT (c .ins) (c .outs) (h .ins) (subst (All Good) (append-nil (c .outs)) (good-maps OUTPUT (c .outs) [] (h .outs) tt)))
+    (good-map (two .global) (c .global) (h .global), good-maps (two .input) (c .ins) (c .outs) (h .ins) (subst (All Good) (append-nil (c .outs)) (good-maps (two .output) (c .outs) [] (h .outs) tt)))
 
 view-here : (f : List ℕ) (m : ℕ) (ms : List Map) (at : ℕ) (r : List ℕ) → drop at f ≡ mapsBytes ms r → viewOf f (entriesBy at m ms) ≡ viewBy m ms
 unfolding viewOf entriesBy viewBy mapsBytes mapBytes

@@ -4,9 +4,8 @@ use mathlib.Core.Path.{_≡_}
 use mathlib.Core.List.{List, [], _∷_}
 use lib.ListN.{length}
 use Rattle.format.specs.Keys.{order}
-use Rattle.format.specs.Rules.{rule, GLOBAL, INPUT, OUTPUT}
-use Rattle.format.specs.Content.{Pair, Map, Content, bytes, field, counted, globalRule, modifiable, outputsRule}
-use Rattle.format.specs.Reading.{limit}
+use Rattle.format.specs.Content.{Pair, Map, Content, bytes}
+use Rattle.format.specs.Reading.{limit, FieldRule, Version, two}
 use Rattle.format.specs.declared.Order.the-variants.{Below}
 use Rattle.format.specs.declared.Ruled.the-variants.{Passed}
 use Rattle.format.proofs.Numbers.{All}
@@ -29,28 +28,32 @@ pub record RisesFile (c : Content) : Type 0 where
   pub ins : All (λ (m : Map). Rises [] (m .pairs)) (c .ins)
   pub outs : All (λ (m : Map). Rises [] (m .pairs)) (c .outs)
 
--- a pair keeps the field rule of maps of kind k
-abbrev pub Keeps : ℕ → Pair → Type 0
-Keeps k p = rule k (p .key) (p .value) ≡ Passed
+-- a pair keeps a field rule
+abbrev pub Keeps : FieldRule → Pair → Type 0
+Keeps ρ p = ρ (p .key) (p .value) ≡ Passed
 
--- pairs behind the key `last` in a map of kind k: framed, rising, each keeping its rule
-pub record Fine (k : ℕ) (last : List ℕ) (ps : List Pair) : Type 0 where
+-- pairs behind the key `last` in a map of field rule ρ: framed, rising, each keeping its rule
+pub record Fine (ρ : FieldRule) (last : List ℕ) (ps : List Pair) : Type 0 where
   pub framed : All Framed ps
   pub rises : Rises last ps
-  pub keeps : All (Keeps k) ps
+  pub keeps : All (Keeps ρ) ps
 
--- a map of kind k: fine pairs, and an end that spells 0
-pub record FineMap (k : ℕ) (m : Map) : Type 0 where
-  pub pairs : Fine k [] (m .pairs)
+-- a map of field rule ρ: fine pairs, and an end that spells 0
+pub record FineMap (ρ : FieldRule) (m : Map) : Type 0 where
+  pub pairs : Fine ρ [] (m .pairs)
   pub end : Spells (m .end) 0
 
--- a file: fine maps as many as it counts, the rules of the global map and of the outputs kept, not too long
-pub record FineFile (c : Content) : Type 0 where
-  pub global : FineMap GLOBAL (c .global)
-  pub ins : All (FineMap INPUT) (c .ins)
-  pub outs : All (FineMap OUTPUT) (c .outs)
-  pub rule : globalRule (c .global .pairs) ≡ Passed
-  pub ins# : length (c .ins) ≡ counted (field 0x04 (c .global .pairs))
-  pub outs# : length (c .outs) ≡ counted (field 0x05 (c .global .pairs))
-  pub late : outputsRule (modifiable (field 0x06 (c .global .pairs))) (c .outs) ≡ Passed
+-- a file of a version: fine maps as many as it counts, the version's early and late rules kept, not too long
+pub record FineOf (v : Version) (c : Content) : Type 0 where
+  pub global : FineMap (v .global) (c .global)
+  pub ins : All (FineMap (v .input)) (c .ins)
+  pub outs : All (FineMap (v .output)) (c .outs)
+  pub rule : v .early (c .global .pairs) ≡ Passed
+  pub ins# : length (c .ins) ≡ v .inputs (c .global .pairs)
+  pub outs# : length (c .outs) ≡ v .outputs (c .global .pairs)
+  pub late : v .late (c .global .pairs) (c .outs) ≡ Passed
   pub short : length (bytes c) ≤ limit
+
+-- a file of version 2
+abbrev pub FineFile : Content → Type 0
+FineFile c = FineOf two c

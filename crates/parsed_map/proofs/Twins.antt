@@ -30,7 +30,7 @@ module _ (k : ℕ) (s : List ℕ) (a l : ℕ) where
   ruled-twin b v Passed = refl
   ruled-twin b v (Refused e) = refl
 
-  value-twin : (y : Size) → shown s (valueBy k s a l y) ≡ valued k (take a s) (take l (drop a s)) (drop (a + l) s) y
+  value-twin : (y : Size) → shown s (valueBy k s a l y) ≡ valued (rule k) (take a s) (take l (drop a s)) (drop (a + l) s) y
   unfolding shown valueBy valued pairAt
   value-twin (Bad e) = refl
   value-twin (Read n u) =
@@ -42,17 +42,17 @@ module _ (k : ℕ) (s : List ℕ) (a l : ℕ) where
         drop-drop n (a + l + u) s,
       )
 
-  risen-twin : (o : Order) → shown s (risenAt k s a l (orderRule o)) ≡ risen k (take a s) (take l (drop a s)) (drop (a + l) s) o
+  risen-twin : (o : Order) → shown s (risenAt k s a l (orderRule o)) ≡ risen (rule k) (take a s) (take l (drop a s)) (drop (a + l) s) o
   unfolding shown risenAt orderRule risen valueOf
   risen-twin Below = value-twin (size (drop (a + l) s))
   risen-twin Same = refl
   risen-twin Above = refl
 
-pub twin : (k : ℕ) (last s : List ℕ) → shown s (itemOf k last s) ≡ item k last s
+pub twin : (k : ℕ) (last s : List ℕ) → shown s (itemOf k last s) ≡ item (rule k) last s
 unfolding itemOf headOf headBy itemAt item itemBy keyed shown
 twin k last s = by (size s)
   where
-    by : (y : Size) → shown s (itemAt k last s (headBy s y)) ≡ itemBy k last s y
+    by : (y : Size) → shown s (itemAt k last s (headBy s y)) ≡ itemBy (rule k) last s y
     by (Bad e) = refl
     by (Read n u) =
         pick-ap (λ (h : Head). shown s (itemAt k last s h)) (eqb n 0) _ _

@@ -8,9 +8,9 @@ use borrow.Author.Tests.{lt-ltb, le-ltb, ne-eqb}
 use lib.Dec.{eqb}
 use lib.ListN.{length, length-append}
 use Rattle.format.specs.Tests.{pick}
-use Rattle.format.specs.Rules.{andThen, GLOBAL, INPUT, OUTPUT}
+use Rattle.format.specs.Rules.{andThen, rule, GLOBAL, INPUT, OUTPUT}
 use Rattle.format.specs.Content.{Pair, Map, field, counted, psbtOf, globalRule, modifiable, outputRule, outputsRule}
-use Rattle.format.specs.Reading.{Item, stop, over, one, item, Mapped, ends, stops, front, turn, items, mapped, Reading, pairEvents, mapEvents, mapsEvents, unless, lastly, globalThen}
+use Rattle.format.specs.Reading.{FieldRule, Item, stop, over, one, item, Mapped, ends, stops, front, turn, items, mapped, Reading, pairEvents, mapEvents, mapsEvents, unless, two, lastly, globalThen}
 use Rattle.format.specs.Reading as R
 use Rattle.format.specs.Entries.{pairWords, mapWords, hasRoom, putPair, putMap, entryOf, width}
 use Rattle.format.specs.Parse.{ParseOut, out, cut}
@@ -51,32 +51,32 @@ goOn-same s r i j h l (Stop e) = refl
 goOn-same s r i j h l (Done y) = refl
 goOn-same s r i j h l (More w) = ap begins (h w [] r l)
 
-over-less : (k : ℕ) (last s a r : List ℕ) → ItemIs k last s (over a r) → length r < length s
-over-less k last s a r w =
+over-less : (ρ : FieldRule) (last s a r : List ℕ) → ItemIs ρ last s (over a r) → length r < length s
+over-less ρ last s a r w =
     let o = size-own a 0 (length a) (w .1) in
     let e : length a + length r ≡ length s = sym (length-append a r) ∙ ap length (w .0) in
     omega (arith, o .0)
 
-one-less : (k : ℕ) (last s : List ℕ) (p : Pair) (r : List ℕ) → ItemIs k last s (one p r) → length r < length s
-one-less k last s p r w = omega (arith, pair-some p r (w .framed), ap length (w .is))
+one-less : (ρ : FieldRule) (last s : List ℕ) (p : Pair) (r : List ℕ) → ItemIs ρ last s (one p r) → length r < length s
+one-less ρ last s p r w = omega (arith, pair-some p r (w .framed), ap length (w .is))
 
-turn-same : (w : Walk) (k : ℕ) (last s : List ℕ) (i j : Walk → List ℕ → List ℕ → Lean) → Alike s i j → (o : Item) → ItemIs k last s o → walkTurn i w o ≡ walkTurn j w o
+turn-same : (w : Walk) (ρ : FieldRule) (last s : List ℕ) (i j : Walk → List ℕ → List ℕ → Lean) → Alike s i j → (o : Item) → ItemIs ρ last s o → walkTurn i w o ≡ walkTurn j w o
 unfolding walkTurn
-turn-same w k last s i j h (stop e) x = refl
-turn-same w k last s i j h (over a r) x = ap (ended a) (goOn-same s r i j h (over-less k last s a r x) (after w (left r)))
-turn-same w k last s i j h (one p r) x = ap (pair p) (h (note (p .key) (p .value) w) (p .key) r (one-less k last s p r x))
+turn-same w ρ last s i j h (stop e) x = refl
+turn-same w ρ last s i j h (over a r) x = ap (ended a) (goOn-same s r i j h (over-less ρ last s a r x) (after w (left r)))
+turn-same w ρ last s i j h (one p r) x = ap (pair p) (h (note (p .key) (p .value) w) (p .key) r (one-less ρ last s p r x))
 
 fuel : (f g : ℕ) (w : Walk) (last s : List ℕ) → length s < f → length s < g → go f w last s ≡ go g w last s
 unfolding go
 fuel zero g w last s a b = absurd (omega arith)
 fuel (suc f) zero w last s a b = absurd (omega arith)
 fuel (suc f) (suc g) w last s a b =
-    turn-same w (w .kind) last s (go f) (go g) (λ v l t h. fuel f g v l t (omega arith) (omega arith)) (item (w .kind) last s) (item-is (w .kind) last s)
+    turn-same w (rule (w .kind)) last s (go f) (go g) (λ v l t h. fuel f g v l t (omega arith) (omega arith)) (item (rule (w .kind)) last s) (item-is (rule (w .kind)) last s)
 
-pub walk-turn : (w : Walk) (last s : List ℕ) → walk w last s ≡ walkTurn walk w (item (w .kind) last s)
+pub walk-turn : (w : Walk) (last s : List ℕ) → walk w last s ≡ walkTurn walk w (item (rule (w .kind)) last s)
 unfolding walk go
 walk-turn w last s =
-    turn-same w (w .kind) last s (go (length s)) walk (λ v l t h. fuel (length s) (suc (length t)) v l t h (omega arith)) (item (w .kind) last s) (item-is (w .kind) last s)
+    turn-same w (rule (w .kind)) last s (go (length s)) walk (λ v l t h. fuel (length s) (suc (length t)) v l t h (omega arith)) (item (rule (w .kind)) last s) (item-is (rule (w .kind)) last s)
 
 -- in a map: the definition's events are the walk's, if they are behind it
 kind-note : (key v : List ℕ) (w : Walk) → note key v w .kind ≡ w .kind
@@ -86,7 +86,7 @@ kind-note key v w =
     (λ q. pick-by (λ (x : Walk). x .kind ≡ w .kind) (eqb (w .kind) OUTPUT) _ _ (λ t. refl) (λ t. refl))
 
 abbrev Behind : (Map → List ℕ → Reading) → Walk → List ℕ → List ℕ → Type 0
-Behind j w last s = (ps : List Pair) (a r : List ℕ) → Rises last ps → All (Keeps (w .kind)) ps → lean (j (record { pairs = ps; end = a }) r) ≡ goOn walk r (after (noteAll w ps) (left r))
+Behind j w last s = (ps : List Pair) (a r : List ℕ) → Rises last ps → All (Keeps (rule (w .kind))) ps → lean (j (record { pairs = ps; end = a }) r) ≡ goOn walk r (after (noteAll w ps) (left r))
 
 front-events : (j : Map → List ℕ → Reading) (p : Pair) (o : Mapped)
     → mapEvents j (front p o) ≡ R.pair p (mapEvents (λ m r. j (record { pairs = p ∷ m .pairs; end = m .end }) r) o)
@@ -94,23 +94,23 @@ unfolding mapEvents front pairEvents
 front-events j p (stops ps e) = refl
 front-events j p (ends ps a r) = refl
 
-in-map : (n : ℕ) (w : Walk) (last s : List ℕ) (j : Map → List ℕ → Reading) → length s < n → Behind j w last s → lean (mapEvents j (items n (w .kind) last s)) ≡ walk w last s
+in-map : (n : ℕ) (w : Walk) (last s : List ℕ) (j : Map → List ℕ → Reading) → length s < n → Behind j w last s → lean (mapEvents j (items n (rule (w .kind)) last s)) ≡ walk w last s
 unfolding items
 in-map zero w last s j l h = absurd (omega arith)
 in-map (suc n) w last s j l h =
-    by (λ v t r i. in-map n v t r i) (item (w .kind) last s) (item-is (w .kind) last s) ∙ sym (walk-turn w last s)
+    by (λ v t r i. in-map n v t r i) (item (rule (w .kind)) last s) (item-is (rule (w .kind)) last s) ∙ sym (walk-turn w last s)
   where
-    by : ((v : Walk) (t r : List ℕ) (i : Map → List ℕ → Reading) → length r < n → Behind i v t r → lean (mapEvents i (items n (v .kind) t r)) ≡ walk v t r)
-        → (o : Item) → ItemIs (w .kind) last s o → lean (mapEvents j (turn (items n (w .kind)) o)) ≡ walkTurn walk w o
+    by : ((v : Walk) (t r : List ℕ) (i : Map → List ℕ → Reading) → length r < n → Behind i v t r → lean (mapEvents i (items n (rule (v .kind)) t r)) ≡ walk v t r)
+        → (o : Item) → ItemIs (rule (w .kind)) last s o → lean (mapEvents j (turn (items n (rule (w .kind))) o)) ≡ walkTurn walk w o
     by more (stop e) x = unfold turn mapEvents pairEvents lean walkTurn in refl
     by more (over a r) x = unfold turn mapEvents pairEvents lean walkTurn noteAll in ap (ended a) (h [] a r tt tt)
     by more (one p r) x =
-        let m = one-less (w .kind) last s p r x in
+        let m = one-less (rule (w .kind)) last s p r x in
         unfold turn walkTurn lean noteAll in
-        (ap lean (front-events j p (items n (w .kind) (p .key) r))
-        ∙ ap (pair p) (ap (λ (k : ℕ). lean (mapEvents (λ m r. j (record { pairs = p ∷ m .pairs; end = m .end }) r) (items n k (p .key) r))) (sym (kind-note (p .key) (p .value) w))
+        (ap lean (front-events j p (items n (rule (w .kind)) (p .key) r))
+        ∙ ap (pair p) (ap (λ (k : ℕ). lean (mapEvents (λ m r. j (record { pairs = p ∷ m .pairs; end = m .end }) r) (items n (rule k) (p .key) r))) (sym (kind-note (p .key) (p .value) w))
         ∙ more (note (p .key) (p .value) w) (p .key) r (λ m r. j (record { pairs = p ∷ m .pairs; end = m .end }) r) (omega arith)
-        (λ ps a q R K. h (p ∷ ps) a q (x .rises, R) (x .keeps, subst (λ (k : ℕ). All (Keeps k) ps) (kind-note (p .key) (p .value) w) K))))
+        (λ ps a q R K. h (p ∷ ps) a q (x .rises, R) (x .keeps, subst (λ (k : ℕ). All (Keeps (rule k)) ps) (kind-note (p .key) (p .value) w) K))))
 
 -- the end of a file: nothing left over, and then what the output rules say
 unfoldable endsBy : Psbt → Ruled → List ℕ → Lean
@@ -162,21 +162,21 @@ after-input w b k = rw (ne-eqb (w .kind) GLOBAL (λ e. omega arith), ne-eqb (w .
 module _ (g : List Pair) where
   outputs-are : (n : ℕ) (w : Walk) (s : List ℕ) (j : List Map → List ℕ → Reading) → w .inputs ≡ 0 → w .outputs ≡ n → w .globals ≡ foundGlobals g
       → ((os : List Map) (x : List ℕ) → lean (j os x) ≡ endsBy (psbtOf g) (andThen (w .ruled) (outputsRule (modifiable (field 0x06 g)) os)) x)
-      → lean (mapsEvents OUTPUT n s j) ≡ goOn walk s (start w (left s))
+      → lean (mapsEvents (rule OUTPUT) n s j) ≡ goOn walk s (start w (left s))
   unfolding mapsEvents outputsRule lean goOn mapped anOutput
   outputs-are zero w s j i o e h =
       h [] s ∙ ap (λ (y : Ruled). endsBy (psbtOf g) y s) (and-passed (w .ruled))
       ∙ sym (ap (goOn walk s) (start-none w (left s) i o) ∙ finish-ends w (psbtOf g) s (ap psbtFrom e ∙ psbt-from g))
   outputs-are (suc n) w s j i o e h =
-      ap begins (in-map (suc (length s)) (anOutput w) [] s (λ m r. mapsEvents OUTPUT n r (λ ms q. j (m ∷ ms) q)) (omega arith)
+      ap begins (in-map (suc (length s)) (anOutput w) [] s (λ m r. mapsEvents (rule OUTPUT) n r (λ ms q. j (m ∷ ms) q)) (omega arith)
       (λ ps a r R K. next ps a r R (λ v t k. outputs-are n v t k)))
       ∙ sym (ap (goOn walk s) (start-output w (left s) n i o))
     where
       next : (ps : List Pair) (a r : List ℕ) → Rises [] ps
           → ((v : Walk) (t : List ℕ) (k : List Map → List ℕ → Reading) → v .inputs ≡ 0 → v .outputs ≡ n → v .globals ≡ foundGlobals g
           → ((os : List Map) (x : List ℕ) → lean (k os x) ≡ endsBy (psbtOf g) (andThen (v .ruled) (outputsRule (modifiable (field 0x06 g)) os)) x)
-          → lean (mapsEvents OUTPUT n t k) ≡ goOn walk t (start v (left t)))
-          → lean (mapsEvents OUTPUT n r (λ ms q. j (record { pairs = ps; end = a } ∷ ms) q)) ≡ goOn walk r (after (noteAll (anOutput w) ps) (left r))
+          → lean (mapsEvents (rule OUTPUT) n t k) ≡ goOn walk t (start v (left t)))
+          → lean (mapsEvents (rule OUTPUT) n r (λ ms q. j (record { pairs = ps; end = a } ∷ ms) q)) ≡ goOn walk r (after (noteAll (anOutput w) ps) (left r))
       next ps a r R more =
           let v : Walk = withSeen (anOutput w) (foundSeen ps) in
           unfold anOutput withSeen closeOutput in
@@ -195,17 +195,17 @@ pub record Same (w v : Walk) : Type 0 where
 -- the inputs that are still to come
 inputs-are : (n : ℕ) (w : Walk) (s : List ℕ) (j : List Map → List ℕ → Reading) → w .inputs ≡ n
     → ((is : List Map) (x : List ℕ) (v : Walk) → v .inputs ≡ 0 → Same w v → lean (j is x) ≡ goOn walk x (start v (left x)))
-    → lean (mapsEvents INPUT n s j) ≡ goOn walk s (start w (left s))
+    → lean (mapsEvents (rule INPUT) n s j) ≡ goOn walk s (start w (left s))
 unfolding mapsEvents lean goOn mapped anInput
 inputs-are zero w s j i h = h [] s w i (record { outputs = refl; globals = refl; ruled = refl })
 inputs-are (suc n) w s j i h =
-    ap begins (in-map (suc (length s)) (anInput w) [] s (λ m r. mapsEvents INPUT n r (λ ms q. j (m ∷ ms) q)) (omega arith)
+    ap begins (in-map (suc (length s)) (anInput w) [] s (λ m r. mapsEvents (rule INPUT) n r (λ ms q. j (m ∷ ms) q)) (omega arith)
     (λ ps a r R K. inputs-are n (anInput w) r (λ ms q. j (record { pairs = ps; end = a } ∷ ms) q) (omega arith)
     (λ is x v z e. h (record { pairs = ps; end = a } ∷ is) x v z (record { outputs = e .outputs; globals = e .globals; ruled = e .ruled }))
     ∙ sym (ap (goOn walk r) (ap (λ (z : Walk). after z (left r)) (input-noted (anInput w) ps refl) ∙ after-input (anInput w) (left r) refl))))
     ∙ sym (ap (goOn walk s) (start-input w (left s) n i))
 
-lastly-ends : (g : Map) (is os : List Map) (x : List ℕ) → lean (lastly g is os x) ≡ endsBy (psbtOf (g .pairs)) (outputsRule (modifiable (field 0x06 (g .pairs))) os) x
+lastly-ends : (g : Map) (is os : List Map) (x : List ℕ) → lean (lastly two g is os x) ≡ endsBy (psbtOf (g .pairs)) (outputsRule (modifiable (field 0x06 (g .pairs))) os) x
 unfolding lastly lean
 lastly-ends g is os (b ∷ x) = by (outputsRule (modifiable (field 0x06 (g .pairs))) os)
   where
@@ -223,7 +223,7 @@ after-global : (w : Walk) (b : Bool) → w .kind ≡ GLOBAL → after w b ≡ af
 unfolding after close
 after-global w b k = rw k
 
-global-are : (ps : List Pair) (a r : List ℕ) → Rises [] ps → All (Keeps GLOBAL) ps → lean (globalThen (record { pairs = ps; end = a }) r) ≡ goOn walk r (after (noteAll atFirst ps) (left r))
+global-are : (ps : List Pair) (a r : List ℕ) → Rises [] ps → All (Keeps (rule GLOBAL)) ps → lean (globalThen two (record { pairs = ps; end = a }) r) ≡ goOn walk r (after (noteAll atFirst ps) (left r))
 unfolding globalThen andThen withGlobals
 global-are ps a r R K =
     by (globalRule ps) refl ∙ sym (ap (goOn walk r) (ap (λ (z : Walk). after z (left r)) (global-noted atFirst ps refl refl R K) ∙ after-global w (left r) refl))
@@ -231,7 +231,7 @@ global-are ps a r R K =
     w : Walk
     w = withGlobals atFirst (foundGlobals ps)
 
-    by : (y : Ruled) → globalRule ps ≡ y → lean (unless y (mapsEvents INPUT (counted (field 0x04 ps)) r (λ is q. mapsEvents OUTPUT (counted (field 0x05 ps)) q (λ os x. lastly (record { pairs = ps; end = a }) is os x)))) ≡ goOn walk r (afterBy (left r) (closeGlobal w (globalsRule (foundGlobals ps))))
+    by : (y : Ruled) → globalRule ps ≡ y → lean (unless y (mapsEvents (rule INPUT) (counted (field 0x04 ps)) r (λ is q. mapsEvents (rule OUTPUT) (counted (field 0x05 ps)) q (λ os x. lastly two (record { pairs = ps; end = a }) is os x)))) ≡ goOn walk r (afterBy (left r) (closeGlobal w (globalsRule (foundGlobals ps))))
     by (Refused e) q = unfold unless lean goOn in rw (global-rule ps, q) (unfold closeGlobal afterBy in refl)
     by Passed q = unfold unless in rw (global-rule ps, q) (unfold closeGlobal afterBy withGlobals in
         inputs-are _ _ r _ (inputs-counted ps)
@@ -239,6 +239,6 @@ global-are ps a r R K =
         (λ os y. lastly-ends (record { pairs = ps; end = a }) is os y ∙ ap (λ (u : Ruled). endsBy (psbtOf ps) (andThen u (outputsRule (modifiable (field 0x06 ps)) os)) y) (sym (e .ruled)))))
 
 -- a file's maps
-pub maps-walked : (s : List ℕ) → lean (mapEvents globalThen (mapped GLOBAL s)) ≡ walk atFirst [] s
+pub maps-walked : (s : List ℕ) → lean (mapEvents (globalThen two) (mapped (rule GLOBAL) s)) ≡ walk atFirst [] s
 unfolding mapped
-maps-walked s = in-map (suc (length s)) atFirst [] s globalThen (omega arith) global-are
+maps-walked s = in-map (suc (length s)) atFirst [] s (globalThen two) (omega arith) global-are

@@ -9,7 +9,7 @@ use lib.ListN.{length, take, drop, length-take}
 use lib.Seq.{take-all}
 use Rattle.format.specs.Keys.{order, isSame, same}
 use Rattle.format.specs.Content.{magic, mapsOf}
-use Rattle.format.specs.Reading.{limit, events, reading}
+use Rattle.format.specs.Reading.{limit, eventsOf, events, reading}
 use Rattle.format.specs.Tables.{view}
 use Rattle.format.specs.Parse.{ParseOut, out, cut, parsed}
 use Rattle.format.specs.Told.{toldWith, toldParsed, toldParse}
@@ -59,12 +59,12 @@ tell r P M o e = ap toldParse e
 
 module _ (F P M : List ℕ) where
   pub too-long : limit < length F → toldWith (toldParsed (A.Refused TooLong 0 0)) P M ≡ toldParse (parsed F P M)
-  unfolding parsed events cut
+  unfolding parsed events eventsOf cut
   too-long h = tell _ P M _ (sym (rw (lt-leb (length F) limit h)))
 
   module _ (l : length F ≤ limit) (b : Bool) (e : b ≡ same (take 5 F) magic) where
     pub no-magic : not b ≡ true → toldWith (toldParsed (A.Refused InvalidMagic 0 0)) P M ≡ toldParse (parsed F P M)
-    unfolding parsed events cut
+    unfolding parsed events eventsOf cut
     no-magic h = tell _ P M _ (sym (rw (le-leb (length F) limit l, sym e ∙ not-true b h)))
 
     pub in-limit : not b ≡ false → InLimit (length F)
@@ -76,7 +76,7 @@ module _ (F P M : List ℕ) where
             omega (arith, length-take 5 F)
 
     pub maps-told : not b ≡ false → (r : Parsed) (P′ M′ : List ℕ) → out r P′ M′ ≡ mapsRead F P M → toldWith (toldParsed r) P′ M′ ≡ toldParse (parsed F P M)
-    unfolding parsed events mapsRead lean
+    unfolding parsed events eventsOf mapsRead lean
     maps-told h r P′ M′ q =
         tell r P′ M′ _ (q ∙ sym (rw (le-leb (length F) limit l, sym e ∙ not-false b h) (cut-lean 5 0 0 0 P M _ ∙ ap (λ x. cutLean 5 0 0 0 P M (begins x)) (maps-walked (drop 5 F)))))
 

@@ -5,6 +5,7 @@ use mathlib.Core.List.{List, [], _∷_}
 use lib.ListN.{length, drop}
 use Rattle.format.specs.Tests.{pick}
 use Rattle.format.specs.Content.{Pair, magic, psbtOf}
+use Rattle.format.specs.Rules.{rule}
 use Rattle.format.specs.Reading.{Item, stop, over, one, item, Reading}
 use Rattle.format.specs.Reading as R
 use Rattle.format.specs.Entries.{pairWords, mapWords, hasRoom, putPair, putMap, entryOf, width}
@@ -61,7 +62,7 @@ walkTurn k w (one p r) = pair p (k (note (p .key) (p .value) w) (p .key) r)
 -- no more turns than the first number says
 unfoldable pub go : ℕ → Walk → List ℕ → List ℕ → Lean
 go zero w last s = refusal UnexpectedEof
-go (suc n) w last s = walkTurn (go n) w (item (w .kind) last s)
+go (suc n) w last s = walkTurn (go n) w (item (rule (w .kind)) last s)
 
 -- the rest s of a file, in the middle of a map whose last key is `last`
 unfoldable pub walk : Walk → List ℕ → List ℕ → Lean

@@ -60,7 +60,7 @@ along-is {A} read t last (p ∷ ps) old h = by (same (keyOf t []) (p .key)) refl
     by false q i = i old
 
 -- a value that is found keeps the field rule
-found-keeps : (k : ℕ) (key : List ℕ) (ps : List Pair) (v : List ℕ) → All (Keeps k) ps → find key ps ≡ found v → rule k key v ≡ Passed
+found-keeps : (k : ℕ) (key : List ℕ) (ps : List Pair) (v : List ℕ) → All (Keeps (rule k)) ps → find key ps ≡ found v → rule k key v ≡ Passed
 unfolding find
 found-keeps k key [] v a e = let z : _≡_ {A = ℕ} 0 1 = cc in absurd (omega arith)
 found-keeps k key (p ∷ ps) v a e = by (same key (p .key)) refl (found-keeps k key ps v (a .1)) e
@@ -93,7 +93,7 @@ counted-is v (Read n u) q h = rw q (unfold sizeValue in ap sizeValue (sym (count
 counted-is v (Bad e) q h = let z : _≡_ {A = ℕ} 0 1 = cc in absurd (omega arith)
 
 -- what noting gives from nothing on, by what is found
-module _ (ps : List Pair) (h : Rises [] ps) (a : All (Keeps GLOBAL) ps) where
+module _ (ps : List Pair) (h : Rises [] ps) (a : All (Keeps (rule GLOBAL)) ps) where
   number-along : (t m : ℕ) → m ≤ 4 → ((n : ℕ) → sizes GLOBAL t 0 n ≡ pick (eqb n m) Passed (Refused BadValue)) → alongBy asNumber t ps Absent ≡ maybe (field t ps)
   unfolding orOld maybe asNumber lead field
   number-along t m l is = along-is asNumber t [] ps Absent h ∙ by (field t ps) refl
@@ -177,7 +177,7 @@ foundGlobals ps = record {
   «has_outputs» = present (field 0x05 ps);
 }
 
-pub global-noted : (w : Walk) (ps : List Pair) → w .kind ≡ GLOBAL → w .globals ≡ noGlobals → Rises [] ps → All (Keeps GLOBAL) ps → noteAll w ps ≡ withGlobals w (foundGlobals ps)
+pub global-noted : (w : Walk) (ps : List Pair) → w .kind ≡ GLOBAL → w .globals ≡ noGlobals → Rises [] ps → All (Keeps (rule GLOBAL)) ps → noteAll w ps ≡ withGlobals w (foundGlobals ps)
 unfolding globalsAlong foundGlobals sizes sizesIn isRow rowRule valueFits rule bareRule keyOf typeOf dataOf andThen
 global-noted w ps k g h a =
     global-all w ps k ∙ rw (
