@@ -4,39 +4,87 @@ use text::put;
 use text::put_decimal;
 ghost use mathlib.Core.Path.{_≡_};
 ghost use Rattle.text.specs.Spots.{spot, lay};
+ghost use Rattle.reasons.specs.Lines.{Begins, Ends, line};
 ghost use Rattle.reasons.specs.Reasons.{meaning, refusedLine};
+
+// A line for each refusal, by its number; line 0 is empty.
+const MEANINGS: [u8; 666] = *b"
+this is no signing file
+bytes are missing, or left over at the end
+a count has bytes left over
+a reason not in use
+a key stands twice
+a key stands below the one before it
+a field has a wrong length
+a count or a version is missing
+a reason not in use
+a reason not in use
+a reason not in use
+a reason not in use
+the file is not of version 2
+there is no such map
+a reason not in use
+a reason not in use
+an output has no script
+a silent payment breaks its rules
+the scripts set do not fit
+a reason not in use
+the file is longer than 65536 bytes
+the file has more than 1024 pairs
+the file has more than 256 maps
+a table does not fit the file
+the transaction is too long
+";
+
+// Where line number `n` begins: at the text's end where there is none.
+fn line_start(text: &[u8], n: u8) -> usize
+    ensures { λ r. ⌜ Begins (now (text .entry)) n r ⌝ }
+{
+    let mut i: usize = 0;
+    let mut left = n;
+    while i < text.len() {
+        if left == 0 {
+            return i;
+        }
+        if text[i] == b'\n' {
+            left = left - 1;
+            i = i + 1;
+        } else {
+            i = i + 1;
+        }
+    }
+    i
+}
+
+// How long the first line is.
+fn line_len(text: &[u8]) -> usize
+    ensures { λ r. ⌜ Ends (now (text .entry)) r ⌝ }
+{
+    let mut i: usize = 0;
+    while i < text.len() {
+        if text[i] == b'\n' {
+            return i;
+        }
+        i = i + 1;
+    }
+    i
+}
+
+// Line number `n`, without its end.
+fn line(text: &[u8], n: u8) -> &[u8]
+    ensures { λ r. ⌜ now r ≡ line n (now (text .entry)) ⌝ }
+{
+    let start = line_start(text, n);
+    let rest = &text[start..];
+    let len = line_len(rest);
+    &rest[..len]
+}
 
 // What a refusal means, in words.
 pub fn put_meaning(out: &mut [u8], at: usize, e: PsbtError) -> usize
     ensures { λ r. ⌜ spot r (now (out .exit)) ≡ lay (spot at (now (out .entry))) (meaning e) ⌝ }
 {
-    match e {
-        PsbtError::InvalidMagic => put(out, at, b"this is no signing file"),
-        PsbtError::UnexpectedEof => put(out, at, b"bytes are missing, or left over at the end"),
-        PsbtError::InvalidCompactSize => put(out, at, b"a count has bytes left over"),
-        PsbtError::MapTerminatorMissing => put(out, at, b"a reason not in use"),
-        PsbtError::DuplicateKey => put(out, at, b"a key stands twice"),
-        PsbtError::UnsortedKeys => put(out, at, b"a key stands below the one before it"),
-        PsbtError::BadValue => put(out, at, b"a field has a wrong length"),
-        PsbtError::MissingCounts => put(out, at, b"a count or a version is missing"),
-        PsbtError::MissingOutputIndex => put(out, at, b"a reason not in use"),
-        PsbtError::MissingRedeemScript => put(out, at, b"a reason not in use"),
-        PsbtError::MissingWitnessScript => put(out, at, b"a reason not in use"),
-        PsbtError::CountsTooLarge => put(out, at, b"a reason not in use"),
-        PsbtError::NotAllowed => put(out, at, b"the file is not of version 2"),
-        PsbtError::OutOfRange => put(out, at, b"there is no such map"),
-        PsbtError::UnknownOutputType => put(out, at, b"a reason not in use"),
-        PsbtError::Unsupported => put(out, at, b"a reason not in use"),
-        PsbtError::MissingOutputScript => put(out, at, b"an output has no script"),
-        PsbtError::InvalidSilentPayment => put(out, at, b"a silent payment breaks its rules"),
-        PsbtError::InvalidOutputScripts => put(out, at, b"the scripts set do not fit"),
-        PsbtError::InvalidSighashType => put(out, at, b"a reason not in use"),
-        PsbtError::TooLong => put(out, at, b"the file is longer than 65536 bytes"),
-        PsbtError::PairsFull => put(out, at, b"the file has more than 1024 pairs"),
-        PsbtError::MapsFull => put(out, at, b"the file has more than 256 maps"),
-        PsbtError::BadIndex => put(out, at, b"a table does not fit the file"),
-        PsbtError::NoRoom => put(out, at, b"the transaction is too long"),
-    }
+    put(out, at, line(&MEANINGS, e.number()))
 }
 
 // `refused N: ..`

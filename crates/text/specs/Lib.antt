@@ -1,3 +1,4 @@
 pub mod Spots
+pub mod Say
 pub mod Spelled
 pub mod Examples
