@@ -31,9 +31,9 @@ use Rattle.lock.proofs.Decisions.{decides}
 pub record Walking (f P M : List ℕ) (s : Psbt) (a : Asks) (i : ℕ) : Type 0 where
   pub is : walk a i (from (inAt f P M) i (s .inputs - i)) ≡ walk noAsks 0 (insOf f P M s)
 
-pub walk-first : (f P M : List ℕ) (s : Psbt) → Walking f P M s noAsks 0
+pub walk-first : (f P M : List ℕ) (s : Psbt) (a : Asks) → a ≡ noAsks → Walking f P M s a 0
 unfolding insOf
-walk-first f P M s = record { is = let q : s .inputs - 0 ≡ s .inputs = omega arith in rw q }
+walk-first f P M s a e = record { is = let q : s .inputs - 0 ≡ s .inputs = omega arith in rw (q, e) }
 
 module _ (f P M : List ℕ) (s : Psbt) (a : Asks) (i : ℕ) (k : Walking f P M s a i) where
   pub walk-done : s .inputs ≤ i → a ≡ walk noAsks 0 (insOf f P M s)

@@ -167,16 +167,23 @@ fn see_input(file: &[u8], pairs: &[u32], maps: &[u32], i: u64, asks: Asks) -> As
     see_at(file, asks, i, all_maps::input_at(file, pairs, m))
 }
 
+// What is asked for before the first input is seen: nothing.
+pub fn no_asks() -> Asks
+    ensures { λ r. ⌜ r ≡ noAsks ⌝ }
+{
+    Asks {
+        fault: Fault::Nowhere,
+        height: Kind::Unasked,
+        time: Kind::Unasked,
+    }
+}
+
 // What all inputs ask for.
 fn all_asks(file: &[u8], pairs: &[u32], maps: &[u32], psbt: Psbt) -> Asks
     requires { ⌜ AllFit (now file) (now pairs) (now maps) psbt ⌝ }
     ensures { λ r. ⌜ r ≡ walk noAsks 0 (insOf (now (file .entry)) (now (pairs .entry)) (now (maps .entry)) psbt) ⌝ }
 {
-    let mut asks = Asks {
-        fault: Fault::Nowhere,
-        height: Kind::Unasked,
-        time: Kind::Unasked,
-    };
+    let mut asks = no_asks();
     let mut i: u64 = 0;
     while i < psbt.inputs {
         asks = see_input(file, pairs, maps, i, asks);

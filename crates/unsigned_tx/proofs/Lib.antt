@@ -1,4 +1,4 @@
-pub mod Walks
-pub mod Inputs
-pub mod Outputs
+pub mod Meanings
+pub mod Surveys
+pub mod Judges
 pub mod Finals

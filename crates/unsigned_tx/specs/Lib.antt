@@ -1,2 +1,1 @@
-pub mod Walks
-pub mod Places
+pub mod Surveys

@@ -18,6 +18,7 @@ all-asks-spec =
     (tie.spec
     Inv-loop
     μ-loop
+    (λ c κs. search (needs, walks))
     (λ c. search (needs, walks))
     (λ c κs. search (needs, walks))
     (λ c. search (needs, walks))

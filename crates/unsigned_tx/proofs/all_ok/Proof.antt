@@ -1,6 +1,6 @@
 -- `unsigned_tx::all_ok` meets its contract.
 use borrow.Author.Needs.{needs}
-use Rattle.unsigned_tx.proofs.Inputs.{alls}
+use Rattle.unsigned_tx.proofs.Surveys.{alls}
 use Rattle.unsigned_tx.proofs.all_ok.Statement.{statement}
 use Rattle.unsigned_tx.proofs.all_ok.Tie as tie
 

@@ -1,6 +1,6 @@
 -- `unsigned_tx::input_ok` meets its contract.
 use borrow.Author.Needs.{needs}
-use Rattle.unsigned_tx.proofs.Inputs.{oks}
+use Rattle.unsigned_tx.proofs.Surveys.{oks}
 use Rattle.unsigned_tx.proofs.input_ok.Statement.{statement}
 use Rattle.unsigned_tx.proofs.input_ok.Tie as tie
 

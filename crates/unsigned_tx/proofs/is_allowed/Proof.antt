@@ -1,7 +1,7 @@
 -- `unsigned_tx::is_allowed` meets its contract.
 use borrow.Author.Needs.{needs}
-use Rattle.unsigned_tx.specs.Places.{allowedAt}
-use Rattle.unsigned_tx.proofs.Inputs.{allowed-by}
+use Rattle.unsigned_tx.specs.Surveys.{allowedAt}
+use Rattle.unsigned_tx.proofs.Surveys.{allowed-by}
 use Rattle.unsigned_tx.proofs.is_allowed.Statement.{statement}
 use Rattle.unsigned_tx.proofs.is_allowed.Tie as tie
 

@@ -1,7 +1,7 @@
 -- `unsigned_tx::is_found` meets its contract.
 use borrow.Author.Needs.{needs}
-use Rattle.unsigned_tx.specs.Places.{isFound}
-use Rattle.unsigned_tx.proofs.Finals.{found-by}
+use Rattle.unsigned_tx.specs.Surveys.{isFound}
+use Rattle.unsigned_tx.proofs.Judges.{found-by}
 use Rattle.unsigned_tx.proofs.is_found.Statement.{statement}
 use Rattle.unsigned_tx.proofs.is_found.Tie as tie
 

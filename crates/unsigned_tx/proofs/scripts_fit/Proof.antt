@@ -1,8 +1,8 @@
 -- `unsigned_tx::scripts_fit` meets its contract.
 use Prim.Native.Nat.{_-_}
 use borrow.Author.Needs.{needs}
-use Rattle.unsigned_tx.proofs.Outputs.{output-maps}
-use Rattle.unsigned_tx.proofs.Finals.{Judging, judges}
+use Rattle.tx_size.proofs.Outputs.{output-maps}
+use Rattle.unsigned_tx.proofs.Judges.{Judging, judges}
 use Rattle.unsigned_tx.proofs.scripts_fit.Statement.{statement}
 use Rattle.unsigned_tx.proofs.scripts_fit.Tie as tie
 

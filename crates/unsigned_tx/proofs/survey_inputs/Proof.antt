@@ -1,7 +1,7 @@
 -- `unsigned_tx::survey_inputs` meets its contract. The loop's invariant: what is known of the inputs before number `i`, with those from `i` on, is what is known of all. The measure is the number of inputs left.
 use Prim.Native.Nat.{_-_}
 use borrow.Author.Needs.{needs}
-use Rattle.unsigned_tx.proofs.Inputs.{Surveying, surveys}
+use Rattle.unsigned_tx.proofs.Surveys.{Surveying, surveys}
 use Rattle.unsigned_tx.proofs.survey_inputs.Statement.{statement}
 use Rattle.unsigned_tx.proofs.survey_inputs.Tie as tie
 
@@ -18,6 +18,7 @@ survey-inputs-spec =
     (tie.spec
     Inv-loop
     μ-loop
+    (λ c κs. search (needs, surveys))
     (λ c. search (needs, surveys))
     (λ c. search (needs, surveys))
     (λ c κs. search (needs, surveys))

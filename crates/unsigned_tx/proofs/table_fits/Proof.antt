@@ -1,6 +1,6 @@
 -- `unsigned_tx::table_fits` meets its contract.
 use borrow.Author.Needs.{needs}
-use Rattle.unsigned_tx.proofs.Finals.{tables}
+use Rattle.unsigned_tx.proofs.Judges.{tables}
 use Rattle.unsigned_tx.proofs.table_fits.Statement.{statement}
 use Rattle.unsigned_tx.proofs.table_fits.Tie as tie
 

@@ -1,0 +1,4 @@
+pub mod Bytes
+pub mod Inputs
+pub mod Outputs
+pub mod Wholes
