@@ -32,7 +32,7 @@ use Rattle.format.specs.declared.UnsignedTx.{UnsignedTx}
 use Rattle.format.specs.declared.UnsignedTx.the-variants as U
 use Rattle.format.proofs.Numbers.{All}
 use Rattle.entries.specs.Words.{pairCount, mapAt}
-use Rattle.lookup.specs.Fits.{entriesOf}
+use Rattle.fitness.specs.Fits.{entriesOf}
 use Rattle.writer.specs.Writes.{wrote, sizeLength}
 use Rattle.writer.proofs.Writes.{length-wrote, wrote-long, wrote-front}
 use Rattle.scripts.specs.Tables.{entryAt, fitsBy}

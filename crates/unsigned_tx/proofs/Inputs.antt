@@ -18,7 +18,7 @@ use Rattle.format.specs.declared.Psbt.{Psbt}
 use Rattle.format.specs.declared.Looked.the-variants as K
 use Rattle.entries.specs.Words.{mapAt}
 use Rattle.entries.proofs.Tables.{map-count}
-use Rattle.lookup.specs.Fits.{entriesOf}
+use Rattle.fitness.specs.Fits.{entriesOf}
 use Rattle.all_maps.specs.Alls.{Usable, AllFit, pairsOf, inAt, from, insOf}
 use Rattle.all_maps.specs.Places.{sizedIn, inputIn}
 use Rattle.all_maps.specs.declared.SizedAt.{SizedAt}

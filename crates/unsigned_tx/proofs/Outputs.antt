@@ -26,7 +26,7 @@ use Rattle.format.proofs.Tests.{never-true}
 use Rattle.wire.proofs.Sizes.{part-rest}
 use Rattle.entries.specs.Words.{mapAt}
 use Rattle.entries.proofs.Tables.{map-count}
-use Rattle.lookup.specs.Fits.{entriesOf}
+use Rattle.fitness.specs.Fits.{entriesOf}
 use Rattle.scripts.specs.Tables.{entryAt}
 use Rattle.all_maps.specs.Alls.{Usable, AllFit, pairsOf, outAt, from}
 use Rattle.all_maps.specs.Places.{sizedIn, foundIn, fieldAt}

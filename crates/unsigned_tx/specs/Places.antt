@@ -15,7 +15,7 @@ use Rattle.format.specs.declared.PsbtError.the-variants.{BadValue}
 use Rattle.format.specs.declared.MapEntry.{MapEntry}
 use Rattle.format.specs.declared.Psbt.{Psbt}
 use Rattle.format.specs.declared.State.{State}
-use Rattle.lookup.specs.Fits.{entriesOf}
+use Rattle.fitness.specs.Fits.{entriesOf}
 use Rattle.writer.specs.Writes.{sizeLength}
 use Rattle.scripts.specs.Tables.{entryAt}
 use Rattle.all_maps.specs.Alls.{Usable, AllFit, outAt, from, insOf}
