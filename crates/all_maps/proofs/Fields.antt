@@ -21,8 +21,8 @@ use Rattle.format.specs.declared.Looked.{Looked}
 use Rattle.format.specs.declared.Looked.the-variants as K
 use Rattle.format.proofs.Tests.{pick-ap}
 use Rattle.entries.specs.Words.{pairCount, mapAt}
-use Rattle.lookup.specs.Fits.{entriesOf}
-use Rattle.lookup.specs.Walks.{Lies}
+use Rattle.fitness.specs.Fits.{entriesOf}
+use Rattle.lookup.specs.Finds.{Lies}
 use Rattle.lookup.proofs.Finds.{place-in}
 use Rattle.all_maps.specs.Alls.{Usable, pairsOf, outAt}
 use Rattle.all_maps.specs.Places.{foundAt, fieldAt, sizedAt, foundIn, sizedIn}

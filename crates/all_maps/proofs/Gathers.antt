@@ -22,10 +22,10 @@ use Rattle.format.specs.declared.Ruled.the-variants as R
 use Rattle.format.proofs.Tests.{pick-by}
 use Rattle.entries.specs.Words.{pairCount, mapCount, mapAt}
 use Rattle.entries.proofs.Tables.{map-count}
-use Rattle.lookup.specs.Fits.{entriesOf, heldOf, fitEntry, notListed, fitAt}
-use Rattle.lookup.specs.declared.Fit.{Fit}
-use Rattle.lookup.specs.declared.Fit.the-variants.{Refused, Is}
-use Rattle.lookup.proofs.Maps.{map-missing, map-there, map-held}
+use Rattle.fitness.specs.Fits.{entriesOf, heldOf, fitEntry, notListed, fitAt}
+use Rattle.fitness.specs.declared.Fit.{Fit}
+use Rattle.fitness.specs.declared.Fit.the-variants.{Refused, Is}
+use Rattle.fitness.proofs.Maps.{map-missing, map-there, map-held}
 use Rattle.all_maps.specs.Alls.{ruledBy, Usable, Whole, AllFit, pairsOf, inAt, outAt, from, insOf, outsOf}
 use Rattle.all_maps.proofs.Runs.{from-take, from-drop, from-map, from-shift}
 

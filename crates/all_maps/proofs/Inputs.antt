@@ -19,8 +19,8 @@ use Rattle.format.specs.declared.MapEntry.{MapEntry}
 use Rattle.format.specs.declared.Looked.the-variants as K
 use Rattle.keys.proofs.Bare.{bare-not}
 use Rattle.entries.specs.Words.{pairCount, pairAt}
-use Rattle.lookup.specs.Fits.{run, entriesOf}
-use Rattle.lookup.proofs.Walks.{run-none, run-one, next-fits}
+use Rattle.fitness.specs.Fits.{run, entriesOf}
+use Rattle.fitness.proofs.Walks.{run-none, run-one, next-fits}
 use Rattle.all_maps.specs.Alls.{Usable}
 use Rattle.all_maps.specs.Places.{foundAt, fieldAt, sizedAt, sizedIn, notedAt, fieldNoted, fieldFrom, noInput, noteInput, inputFrom, inputIn}
 use Rattle.all_maps.specs.declared.FoundAt.the-variants as F

@@ -13,7 +13,7 @@ use Rattle.format.specs.declared.Psbt.{Psbt}
 use Rattle.format.specs.declared.Ruled.{Ruled}
 use Rattle.format.specs.declared.Ruled.the-variants.{Passed, Refused}
 use Rattle.entries.specs.Words.{pairCount, mapCount, mapAt}
-use Rattle.lookup.specs.Fits.{entriesOf}
+use Rattle.fitness.specs.Fits.{entriesOf}
 
 -- whether maps are fit, by what they show
 unfoldable pub ruledBy : Gathered → Ruled

@@ -14,7 +14,7 @@ use Rattle.format.specs.declared.PairEntry.{PairEntry}
 use Rattle.format.specs.declared.MapEntry.{MapEntry}
 use Rattle.format.specs.declared.Looked.{Looked}
 use Rattle.format.specs.declared.Looked.the-variants as K
-use Rattle.lookup.specs.Fits.{entriesOf}
+use Rattle.fitness.specs.Fits.{entriesOf}
 use Rattle.all_maps.specs.declared.FoundAt.{FoundAt}
 use Rattle.all_maps.specs.declared.FoundAt.the-variants as F
 use Rattle.all_maps.specs.declared.SizedAt.{SizedAt}

@@ -1,4 +1,5 @@
 // All reported maps at once: whether each is fit, and the fields of one that is.
+use fitness::Fit;
 use format::Looked;
 use format::MapEntry;
 use format::PSBT_IN_OUTPUT_INDEX;
@@ -9,7 +10,6 @@ use format::PSBT_IN_SEQUENCE;
 use format::PairEntry;
 use format::Psbt;
 use format::Ruled;
-use lookup::Fit;
 ghost use mathlib.Core.Path.{_≡_};
 ghost use mathlib.Core.List.{map};
 ghost use Prim.Native.Nat.{_+_, _≤_};
@@ -18,7 +18,7 @@ ghost use Rattle.format.specs.Entries.{shown};
 ghost use Rattle.format.specs.Tables.{view, gather, mapsReported};
 ghost use Rattle.format.specs.Locks.{sizedTo, inOf};
 ghost use Rattle.entries.specs.Words.{pairCount};
-ghost use Rattle.lookup.specs.Fits.{entriesOf};
+ghost use Rattle.fitness.specs.Fits.{entriesOf};
 ghost use Rattle.all_maps.specs.Alls.{ruledBy, Usable};
 ghost use Rattle.all_maps.specs.Places.{fieldAt, sizedAt, sizedIn, notedAt, noteInput, inputIn};
 
@@ -40,8 +40,8 @@ pub fn all_fit(file: &[u8], pairs: &[u32], maps: &[u32], psbt: Psbt) -> Ruled
     ensures { λ r. ⌜ r ≡ ruledBy (gather (view (now (file .entry)) (now (pairs .entry)) (now (maps .entry)) psbt) 0 (mapsReported psbt)) ⌝ }
 {
     let mut m: u64 = 0;
-    while lookup::is_reported(psbt, m) {
-        match lookup::fit_map(file, pairs, maps, psbt, m) {
+    while fitness::is_reported(psbt, m) {
+        match fitness::fit_map(file, pairs, maps, psbt, m) {
             Fit::Refused(e) => {
                 return Ruled::Refused(e);
             }
@@ -123,7 +123,7 @@ fn noted(old: SizedAt, own: bool, width: usize, e: PairEntry) -> SizedAt
 fn note_input(file: &[u8], old: InputAt, e: PairEntry) -> InputAt
     ensures { λ r. ⌜ r ≡ noteInput (now (file .entry)) old e ⌝ }
 {
-    let key = lookup::key_in(file, e);
+    let key = fitness::key_in(file, e);
     if key.len() != 1 {
         return old;
     }

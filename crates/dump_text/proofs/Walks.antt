@@ -18,11 +18,11 @@ use Rattle.format.specs.declared.MapEntry.{MapEntry}
 use Rattle.format.specs.declared.Psbt.{Psbt}
 use Rattle.entries.specs.Words.{pairCount, pairAt}
 use Rattle.entries.proofs.Tables.{map-count}
-use Rattle.lookup.specs.Fits.{run, entriesOf, heldOf, fitAt}
-use Rattle.lookup.specs.declared.Fit.{Fit}
-use Rattle.lookup.specs.declared.Fit.the-variants.{Refused, Is}
-use Rattle.lookup.proofs.Walks.{run-none, run-one, next-fits}
-use Rattle.lookup.proofs.Maps.{map-held, map-sound}
+use Rattle.fitness.specs.Fits.{run, entriesOf, heldOf, fitAt}
+use Rattle.fitness.specs.declared.Fit.{Fit}
+use Rattle.fitness.specs.declared.Fit.the-variants.{Refused, Is}
+use Rattle.fitness.proofs.Walks.{run-none, run-one, next-fits}
+use Rattle.fitness.proofs.Maps.{map-held, map-sound}
 use Rattle.all_maps.proofs.Gathers.{at-whole}
 use Rattle.text.specs.Spots.{Spot, spot, lay}
 use Rattle.text.proofs.Lays.{lay-then}

@@ -1,5 +1,8 @@
 // The text that the dump prints of a file, put into a lent buffer as far as it has room.
 use entries::pair_entry;
+use fitness::Fit;
+use fitness::fit_map;
+use fitness::is_reported;
 use format::Looked;
 use format::MapEntry;
 use format::Nth;
@@ -9,9 +12,6 @@ use format::Psbt;
 use format::PsbtError;
 use format::State;
 use format::UnsignedTx;
-use lookup::Fit;
-use lookup::fit_map;
-use lookup::is_reported;
 use lookup::key_part;
 use lookup::part_of;
 use lookup::value_part;
@@ -27,7 +27,7 @@ ghost use lib.ListN.{length};
 ghost use Rattle.format.specs.Entries.{shown};
 ghost use Rattle.format.specs.Tables.{view, mapsReported};
 ghost use Rattle.entries.specs.Words.{pairCount};
-ghost use Rattle.lookup.specs.Fits.{entriesOf};
+ghost use Rattle.fitness.specs.Fits.{entriesOf};
 ghost use Rattle.text.specs.Spots.{spot, lay};
 ghost use Rattle.dump_text.specs.Lines.{refusedLine, versionText, countsText, headLine, mapLine, keyText, pairText, pairLine, pairsText, mapText, mapsText, unsignedLine};
 ghost use Rattle.dump_text.specs.Dump.{zeros, acceptedText, dumpIn, dump};

@@ -18,7 +18,7 @@ use Rattle.format.specs.declared.Looked.the-variants as K
 use Rattle.wire.specs.Leads.{lead}
 use Rattle.entries.specs.Words.{mapAt}
 use Rattle.entries.proofs.Tables.{map-count}
-use Rattle.lookup.specs.Fits.{entriesOf}
+use Rattle.fitness.specs.Fits.{entriesOf}
 use Rattle.all_maps.specs.Alls.{Usable, Whole, pairsOf, inAt}
 use Rattle.all_maps.specs.Places.{sizedIn, inputIn}
 use Rattle.all_maps.specs.declared.SizedAt.{SizedAt}

@@ -30,13 +30,18 @@ use Rattle.format.specs.Told.{toldLooked}
 use Rattle.wire.specs.Leads.{lead}
 use Rattle.wire.proofs.Sizes.{part-rest}
 use Rattle.entries.specs.Words.{pairCount, pairAt}
-use Rattle.lookup.specs.Fits.{run, entriesOf, heldOf, Sound}
-use Rattle.lookup.specs.Walks.{bytesAt, lengthOf, Short, Lies}
-use Rattle.lookup.specs.declared.Fit.{Fit}
-use Rattle.lookup.specs.declared.Fit.the-variants as F
+use Rattle.fitness.specs.Fits.{run, entriesOf, heldOf, Sound}
+use Rattle.fitness.specs.Parts.{bytesAt}
+use Rattle.fitness.specs.declared.Fit.{Fit}
+use Rattle.fitness.specs.declared.Fit.the-variants as F
+use Rattle.fitness.proofs.Walks.{run-none, run-one, next-fits}
+use Rattle.lookup.specs.Finds.{lengthOf, Short, Lies}
 use Rattle.lookup.specs.declared.Wanted.{Wanted}
 use Rattle.lookup.specs.declared.Wanted.the-variants as W
-use Rattle.lookup.proofs.Walks.{run-none, run-one, next-fits}
+
+-- an order, by the case that it is
+pub same-by : (o x : Order) (b : Bool) → o ≡ x → b ≡ isSame x → b ≡ isSame o
+same-by o x b e h = h ∙ sym (ap isSame e)
 
 -- a key, by its type and its data
 other-type : (t x : ℕ) (d k : List ℕ) → (x ≡ t → ⊥) → same (keyOf t d) (x ∷ k) ≡ false

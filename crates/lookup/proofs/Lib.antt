@@ -1,5 +1,2 @@
-pub mod Parts
-pub mod Walks
-pub mod Maps
 pub mod Finds
 pub mod Lists

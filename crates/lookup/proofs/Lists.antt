@@ -28,11 +28,11 @@ use Rattle.format.specs.declared.Nth.{Nth}
 use Rattle.format.specs.declared.Nth.the-variants as K
 use Rattle.entries.specs.Words.{noPair, pairCount, pairAt}
 use Rattle.entries.proofs.Tables.{pair-count}
-use Rattle.lookup.specs.Fits.{run, entriesOf, heldOf, Within}
-use Rattle.lookup.specs.Walks.{oneIf, counted, isBefore, isListed}
-use Rattle.lookup.specs.declared.Fit.{Fit}
-use Rattle.lookup.specs.declared.Fit.the-variants as F
-use Rattle.lookup.proofs.Walks.{run-none, run-one, next-fits}
+use Rattle.fitness.specs.Fits.{run, entriesOf, heldOf, Within}
+use Rattle.fitness.specs.declared.Fit.{Fit}
+use Rattle.fitness.specs.declared.Fit.the-variants as F
+use Rattle.fitness.proofs.Walks.{run-none, run-one, next-fits}
+use Rattle.lookup.specs.Lists.{oneIf, counted, isBefore, isListed}
 
 -- the tests on one key
 pub before-is : (f : List ℕ) (t : ℕ) (e : PairEntry) (r : Bool) (o : Order) (k : List ℕ) → r ≡ isBelow o → o ≡ order k (t ∷ []) → k ≡ keyIn f e → r ≡ isBefore f t e

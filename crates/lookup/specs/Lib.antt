@@ -1,2 +1,2 @@
-pub mod Fits
-pub mod Walks
+pub mod Finds
+pub mod Lists

@@ -30,10 +30,10 @@ use Rattle.format.specs.declared.OutputScript.{OutputScript}
 use Rattle.format.specs.declared.OutputScript.the-variants as O
 use Rattle.format.proofs.Tests.{pick-by, never-true, and-left}
 use Rattle.format.proofs.Told.{script-one}
-use Rattle.lookup.specs.Fits.{entriesOf, heldOf, fitOutput}
-use Rattle.lookup.specs.declared.Fit.{Fit}
-use Rattle.lookup.specs.declared.Fit.the-variants as X
-use Rattle.lookup.proofs.Maps.{output-held}
+use Rattle.fitness.specs.Fits.{entriesOf, heldOf, fitOutput}
+use Rattle.fitness.specs.declared.Fit.{Fit}
+use Rattle.fitness.specs.declared.Fit.the-variants as X
+use Rattle.fitness.proofs.Maps.{output-held}
 use Rattle.scripts.specs.Tables.{entryAt, filled, fitsBy}
 use Rattle.scripts.proofs.Tables.{fits-is}
 use Rattle.all_maps.specs.Places.{foundAt, fieldAt, foundIn}

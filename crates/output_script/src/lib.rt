@@ -1,5 +1,6 @@
 // An output's script: 04 in the file, else the one that the signer set.
 use all_maps::FoundAt;
+use fitness::Fit;
 use format::Looked;
 use format::MapEntry;
 use format::OutputScript;
@@ -7,14 +8,13 @@ use format::PSBT_OUT_SCRIPT;
 use format::Psbt;
 use format::PsbtError;
 use format::State;
-use lookup::Fit;
 ghost use mathlib.Core.Path.{_≡_};
 ghost use Prim.Native.Nat.{_+_, _≤_};
 ghost use Rattle.format.specs.Tables.{heldOutput, holds};
 ghost use Rattle.format.specs.Transaction.{outputScript, scriptPart};
 ghost use Rattle.format.specs.Told.{toldScript};
 ghost use Rattle.entries.specs.Words.{pairCount};
-ghost use Rattle.lookup.specs.Fits.{entriesOf};
+ghost use Rattle.fitness.specs.Fits.{entriesOf};
 ghost use Rattle.output_script.specs.Scripts.{inFile, inTable};
 
 // A script 04, once its entry of the script table is fit.
@@ -80,7 +80,7 @@ pub fn output_script(
 ) -> OutputScript
     ensures { λ r. ⌜ toldScript r ≡ toldScript (outputScript (now (file .entry)) state (now (scripts .entry)) i (heldOutput (now (file .entry)) (now (pairs .entry)) (now (maps .entry)) psbt i)) ⌝ }
 {
-    match lookup::fit_output(file, pairs, maps, psbt, i) {
+    match fitness::fit_output(file, pairs, maps, psbt, i) {
         Fit::Refused(e) => OutputScript::Refused(e),
         Fit::Is(m) => script_in(file, pairs, m, state, scripts, i),
     }

@@ -18,9 +18,9 @@ use Rattle.format.specs.declared.Looked.{Looked}
 use Rattle.format.proofs.Tests.{and-left, and-right}
 use Rattle.writer.specs.Writes.{wrote}
 use Rattle.writer.proofs.Writes.{length-wrote, wrote-append}
-use Rattle.lookup.specs.Fits.{heldOf, Within}
-use Rattle.lookup.specs.Walks.{lengthOf}
-use Rattle.lookup.specs.declared.Fit.{Fit}
+use Rattle.fitness.specs.Fits.{heldOf, Within}
+use Rattle.lookup.specs.Finds.{lengthOf}
+use Rattle.fitness.specs.declared.Fit.{Fit}
 use Rattle.lookup.specs.declared.Wanted.the-variants as W
 use Rattle.payments.specs.Joined.{keyFits, musigFits, Joined, Parts}
 

@@ -23,9 +23,9 @@ use Rattle.format.specs.declared.Utxo.{Utxo}
 use Rattle.format.specs.declared.Utxo.the-variants as U
 use Rattle.format.specs.declared.Psbt.{Psbt}
 use Rattle.wire.specs.Leads.{lead}
-use Rattle.lookup.specs.Fits.{fitInput, fitOutput}
-use Rattle.lookup.specs.Walks.{Lies}
-use Rattle.lookup.proofs.Maps.{input-held, output-held, input-sound, output-sound}
+use Rattle.fitness.specs.Fits.{fitInput, fitOutput}
+use Rattle.lookup.specs.Finds.{Lies}
+use Rattle.fitness.proofs.Maps.{input-held, output-held, input-sound, output-sound}
 use Rattle.lookup.proofs.Finds.{asked-in}
 use Rattle.payments.specs.Joined.{Placed}
 

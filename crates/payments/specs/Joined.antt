@@ -6,8 +6,8 @@ use mathlib.Core.List.{List}
 use lib.ListN.{length}
 use lib.Dec.{eqb}
 use Rattle.format.specs.Fields.{leafFits}
-use Rattle.lookup.specs.Fits.{Within}
-use Rattle.lookup.specs.declared.Fit.{Fit}
+use Rattle.fitness.specs.Fits.{Within}
+use Rattle.fitness.specs.declared.Fit.{Fit}
 
 -- an aggregate key has 33 bytes, and its leaf hash fits
 unfoldable pub keyFits : List ℕ → List ℕ → Bool

@@ -21,7 +21,7 @@ pub fn get_sp_ecdh_share(
 ) -> Looked
     ensures { λ r. ⌜ toldLooked r ≡ toldLooked (globalShare (now (file .entry)) (now («scan_key» .entry)) (held (now (file .entry)) (now (pairs .entry)) (now (maps .entry)) psbt 0)) ⌝ }
 {
-    let fit = lookup::fit_map(file, pairs, maps, psbt, 0);
+    let fit = fitness::fit_map(file, pairs, maps, psbt, 0);
     scan_lookup(file, pairs, fit, PSBT_GLOBAL_SP_ECDH_SHARE, 33, scan_key)
 }
 
@@ -35,7 +35,7 @@ pub fn get_sp_dleq_proof(
 ) -> Looked
     ensures { λ r. ⌜ toldLooked r ≡ toldLooked (globalProof (now (file .entry)) (now («scan_key» .entry)) (held (now (file .entry)) (now (pairs .entry)) (now (maps .entry)) psbt 0)) ⌝ }
 {
-    let fit = lookup::fit_map(file, pairs, maps, psbt, 0);
+    let fit = fitness::fit_map(file, pairs, maps, psbt, 0);
     scan_lookup(file, pairs, fit, PSBT_GLOBAL_SP_DLEQ, 64, scan_key)
 }
 

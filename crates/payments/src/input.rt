@@ -36,7 +36,7 @@ pub fn get_sp_ecdh_share(
 ) -> Looked
     ensures { λ r. ⌜ toldLooked r ≡ toldLooked (inputShare (now (file .entry)) (now («scan_key» .entry)) (heldInput (now (file .entry)) (now (pairs .entry)) (now (maps .entry)) psbt i)) ⌝ }
 {
-    let fit = lookup::fit_input(file, pairs, maps, psbt, i);
+    let fit = fitness::fit_input(file, pairs, maps, psbt, i);
     scan_lookup(file, pairs, fit, PSBT_IN_SP_ECDH_SHARE, 33, scan_key)
 }
 
@@ -51,7 +51,7 @@ pub fn get_sp_dleq_proof(
 ) -> Looked
     ensures { λ r. ⌜ toldLooked r ≡ toldLooked (inputProof (now (file .entry)) (now («scan_key» .entry)) (heldInput (now (file .entry)) (now (pairs .entry)) (now (maps .entry)) psbt i)) ⌝ }
 {
-    let fit = lookup::fit_input(file, pairs, maps, psbt, i);
+    let fit = fitness::fit_input(file, pairs, maps, psbt, i);
     scan_lookup(file, pairs, fit, PSBT_IN_SP_DLEQ, 64, scan_key)
 }
 
@@ -99,7 +99,7 @@ pub fn get_musig2_pub_nonce(
 ) -> Looked
     ensures { λ r. ⌜ toldLooked r ≡ toldLooked (pubNonce (now (file .entry)) (now (participant .entry)) (now (aggregate .entry)) (now (leaf .entry)) (heldInput (now (file .entry)) (now (pairs .entry)) (now (maps .entry)) psbt i)) ⌝ }
 {
-    let fit = lookup::fit_input(file, pairs, maps, psbt, i);
+    let fit = fitness::fit_input(file, pairs, maps, psbt, i);
     musig_lookup(
         file,
         pairs,
@@ -125,7 +125,7 @@ pub fn get_musig2_partial_sig(
 ) -> Looked
     ensures { λ r. ⌜ toldLooked r ≡ toldLooked (partialSig (now (file .entry)) (now (participant .entry)) (now (aggregate .entry)) (now (leaf .entry)) (heldInput (now (file .entry)) (now (pairs .entry)) (now (maps .entry)) psbt i)) ⌝ }
 {
-    let fit = lookup::fit_input(file, pairs, maps, psbt, i);
+    let fit = fitness::fit_input(file, pairs, maps, psbt, i);
     musig_lookup(
         file,
         pairs,
@@ -150,7 +150,7 @@ pub fn get_musig2_participant_pubkeys(
 ) -> Looked
     ensures { λ r. ⌜ toldLooked r ≡ toldLooked (inputParticipants (now (file .entry)) (now (aggregate .entry)) (now (leaf .entry)) (heldInput (now (file .entry)) (now (pairs .entry)) (now (maps .entry)) psbt i)) ⌝ }
 {
-    let fit = lookup::fit_input(file, pairs, maps, psbt, i);
+    let fit = fitness::fit_input(file, pairs, maps, psbt, i);
     let ok = key_fits(aggregate, leaf);
     parts_lookup(
         file,

@@ -1,9 +1,9 @@
 // Silent payments, MuSig2 and witness UTXOs: lookups by keys with data, and what stands in their values.
+use fitness::Fit;
 use format::Looked;
 use format::Numbered;
 use format::PsbtError;
 use format::Utxo;
-use lookup::Fit;
 use lookup::Wanted;
 ghost use mathlib.Core.Path.{_≡_};
 ghost use mathlib.Core.Bool.{true};
@@ -11,8 +11,8 @@ ghost use mathlib.Core.List.{_++_};
 ghost use Rattle.format.specs.Keys.{keyOf};
 ghost use Rattle.format.specs.Lookups.{asked};
 ghost use Rattle.format.specs.Fields.{scanLookup, leafFits, musigLookup, participantCount, participant, utxoOf, utxoBy, utxoPart};
-ghost use Rattle.lookup.specs.Fits.{heldOf, Within};
-ghost use Rattle.lookup.specs.Walks.{lengthOf, Lies};
+ghost use Rattle.fitness.specs.Fits.{heldOf, Within};
+ghost use Rattle.lookup.specs.Finds.{lengthOf, Lies};
 ghost use Rattle.payments.specs.Joined.{keyFits, musigFits, Joined, Parts, Placed};
 
 pub mod global;

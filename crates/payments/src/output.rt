@@ -22,7 +22,7 @@ pub fn get_musig2_participant_pubkeys(
 ) -> Looked
     ensures { λ r. ⌜ toldLooked r ≡ toldLooked (outputParticipants (now (file .entry)) (now (aggregate .entry)) (heldOutput (now (file .entry)) (now (pairs .entry)) (now (maps .entry)) psbt i)) ⌝ }
 {
-    let fit = lookup::fit_output(file, pairs, maps, psbt, i);
+    let fit = fitness::fit_output(file, pairs, maps, psbt, i);
     let ok = aggregate.len() == 33;
     lookup::asked(
         file,

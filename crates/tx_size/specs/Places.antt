@@ -11,7 +11,7 @@ use Rattle.format.specs.Transaction.{setSoFar}
 use Rattle.format.specs.declared.MapEntry.{MapEntry}
 use Rattle.format.specs.declared.Psbt.{Psbt}
 use Rattle.format.specs.declared.State.{State}
-use Rattle.lookup.specs.Fits.{entriesOf}
+use Rattle.fitness.specs.Fits.{entriesOf}
 use Rattle.scripts.specs.Tables.{entryAt}
 use Rattle.all_maps.specs.Alls.{outAt, from}
 use Rattle.all_maps.specs.declared.SizedAt.{SizedAt}

@@ -17,9 +17,9 @@ use Rattle.format.specs.declared.Looked.{Looked}
 use Rattle.format.specs.declared.Looked.the-variants.{Refused, Absent, At}
 use Rattle.format.specs.declared.Numbered.{Numbered}
 use Rattle.format.proofs.Tests.{pick-by}
-use Rattle.lookup.specs.Fits.{heldOf, Within}
-use Rattle.lookup.specs.Walks.{lengthOf, Short}
-use Rattle.lookup.specs.declared.Fit.{Fit}
+use Rattle.fitness.specs.Fits.{heldOf, Within}
+use Rattle.lookup.specs.Finds.{lengthOf, Short}
+use Rattle.fitness.specs.declared.Fit.{Fit}
 use Rattle.lookup.specs.declared.Wanted.the-variants as W
 use Rattle.typed.specs.Numerals.{Numeral}
 

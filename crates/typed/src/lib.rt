@@ -1,16 +1,16 @@
 // Typed fields of inputs and outputs: thin calls over the lookup of a part and of a number.
+use fitness::Fit;
 use format::Looked;
 use format::Numbered;
 use format::Psbt;
-use lookup::Fit;
 use lookup::Wanted;
 ghost use mathlib.Core.Path.{_≡_};
 ghost use Prim.Native.Nat.{_≤_};
 ghost use Rattle.format.specs.Tables.{heldInput, heldOutput};
 ghost use Rattle.format.specs.Fields.{partField, numberField};
 ghost use Rattle.format.specs.Told.{toldLooked, toldNumbered};
-ghost use Rattle.lookup.specs.Fits.{heldOf, Within};
-ghost use Rattle.lookup.specs.Walks.{lengthOf};
+ghost use Rattle.fitness.specs.Fits.{heldOf, Within};
+ghost use Rattle.lookup.specs.Finds.{lengthOf};
 ghost use Rattle.typed.specs.Numerals.{Numeral};
 
 pub mod input;
@@ -45,7 +45,7 @@ fn input_part(
 ) -> Looked
     ensures { λ r. ⌜ toldLooked r ≡ toldLooked (partField «key_type» (lengthOf wanted) (now (file .entry)) (heldInput (now (file .entry)) (now (pairs .entry)) (now (maps .entry)) psbt i)) ⌝ }
 {
-    let fit = lookup::fit_input(file, pairs, maps, psbt, i);
+    let fit = fitness::fit_input(file, pairs, maps, psbt, i);
     part_field(file, pairs, fit, key_type, wanted)
 }
 
@@ -61,7 +61,7 @@ fn input_number(
     requires { ⌜ width ≤ 8 ⌝ }
     ensures { λ r. ⌜ toldNumbered r ≡ toldNumbered (numberField «key_type» width (now (file .entry)) (heldInput (now (file .entry)) (now (pairs .entry)) (now (maps .entry)) psbt i)) ⌝ }
 {
-    let fit = lookup::fit_input(file, pairs, maps, psbt, i);
+    let fit = fitness::fit_input(file, pairs, maps, psbt, i);
     number_field(file, pairs, fit, key_type, width)
 }
 
@@ -77,7 +77,7 @@ fn output_part(
 ) -> Looked
     ensures { λ r. ⌜ toldLooked r ≡ toldLooked (partField «key_type» (lengthOf wanted) (now (file .entry)) (heldOutput (now (file .entry)) (now (pairs .entry)) (now (maps .entry)) psbt i)) ⌝ }
 {
-    let fit = lookup::fit_output(file, pairs, maps, psbt, i);
+    let fit = fitness::fit_output(file, pairs, maps, psbt, i);
     part_field(file, pairs, fit, key_type, wanted)
 }
 
@@ -93,6 +93,6 @@ fn output_number(
     requires { ⌜ width ≤ 8 ⌝ }
     ensures { λ r. ⌜ toldNumbered r ≡ toldNumbered (numberField «key_type» width (now (file .entry)) (heldOutput (now (file .entry)) (now (pairs .entry)) (now (maps .entry)) psbt i)) ⌝ }
 {
-    let fit = lookup::fit_output(file, pairs, maps, psbt, i);
+    let fit = fitness::fit_output(file, pairs, maps, psbt, i);
     number_field(file, pairs, fit, key_type, width)
 }

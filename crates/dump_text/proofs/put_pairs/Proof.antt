@@ -1,6 +1,6 @@
 -- `dump_text::put_pairs` meets its contract. The loop's invariant: the lines of the pairs from `i` on, put from here, give all. The measure is the number of pairs left.
 use borrow.Author.Needs.{needs}
-use Rattle.lookup.specs.Fits.{entriesOf}
+use Rattle.fitness.specs.Fits.{entriesOf}
 use Rattle.dump_text.proofs.Walks.{Listing, lists}
 use Rattle.dump_text.proofs.put_pairs.Statement.{statement}
 use Rattle.dump_text.proofs.put_pairs.Tie as tie

@@ -1,6 +1,6 @@
 -- `lookup::asked` meets its contract.
 use borrow.Author.Needs.{needs}
-use Rattle.lookup.proofs.Maps.{fits}
+use Rattle.fitness.proofs.Maps.{fits}
 use Rattle.lookup.proofs.Finds.{askings}
 use Rattle.lookup.proofs.asked.Statement.{statement}
 use Rattle.lookup.proofs.asked.Tie as tie

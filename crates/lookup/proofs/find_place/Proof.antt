@@ -1,7 +1,7 @@
 -- `lookup::find_place` meets its contract. The loop's invariant: where the key's value stands from pair `i` on is where it stands. The measure is the number of pairs left.
 use borrow.Author.Needs.{needs}
 use Rattle.format.specs.Keys.{keyOf}
-use Rattle.lookup.specs.Fits.{entriesOf}
+use Rattle.fitness.specs.Fits.{entriesOf}
 use Rattle.lookup.proofs.Finds.{Finding, findings}
 use Rattle.lookup.proofs.find_place.Statement.{statement}
 use Rattle.lookup.proofs.find_place.Tie as tie

@@ -1,6 +1,6 @@
 -- `lookup::get` meets its contract.
 use borrow.Author.Needs.{needs}
-use Rattle.lookup.proofs.Maps.{fits, map-held}
+use Rattle.fitness.proofs.Maps.{fits, map-held}
 use Rattle.lookup.proofs.Finds.{get-is}
 use Rattle.lookup.proofs.get.Statement.{statement}
 use Rattle.lookup.proofs.get.Tie as tie

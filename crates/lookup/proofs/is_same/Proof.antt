@@ -1,7 +1,7 @@
 -- `lookup::is_same` meets its contract.
 use borrow.Author.Needs.{needs}
 use Rattle.format.specs.Keys.{isSame}
-use Rattle.lookup.proofs.Parts.{same-by}
+use Rattle.lookup.proofs.Finds.{same-by}
 use Rattle.lookup.proofs.is_same.Statement.{statement}
 use Rattle.lookup.proofs.is_same.Tie as tie
 

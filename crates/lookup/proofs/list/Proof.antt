@@ -1,6 +1,6 @@
 -- `lookup::list` meets its contract.
 use borrow.Author.Needs.{needs}
-use Rattle.lookup.proofs.Maps.{fits, map-held}
+use Rattle.fitness.proofs.Maps.{fits, map-held}
 use Rattle.lookup.proofs.Lists.{list-is}
 use Rattle.lookup.proofs.list.Statement.{statement}
 use Rattle.lookup.proofs.list.Tie as tie

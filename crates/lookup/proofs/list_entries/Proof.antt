@@ -1,7 +1,7 @@
 -- `lookup::list_entries` meets its contract. The loop's invariant: what was counted and what is counted from pair `i` on are all, of both counts. The measure is the number of pairs left.
 use borrow.Author.Needs.{needs}
-use Rattle.lookup.specs.Fits.{entriesOf}
-use Rattle.lookup.specs.Walks.{isBefore, isListed}
+use Rattle.fitness.specs.Fits.{entriesOf}
+use Rattle.lookup.specs.Lists.{isBefore, isListed}
 use Rattle.lookup.proofs.Lists.{Counting, countings}
 use Rattle.lookup.proofs.list_entries.Statement.{statement}
 use Rattle.lookup.proofs.list_entries.Tie as tie

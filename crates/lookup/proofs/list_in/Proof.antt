@@ -1,6 +1,6 @@
 -- `lookup::list_in` meets its contract.
 use borrow.Author.Needs.{needs}
-use Rattle.lookup.proofs.Maps.{fits}
+use Rattle.fitness.proofs.Maps.{fits}
 use Rattle.lookup.proofs.Lists.{listings}
 use Rattle.lookup.proofs.list_in.Statement.{statement}
 use Rattle.lookup.proofs.list_in.Tie as tie

@@ -1,6 +1,6 @@
 -- `lookup::nth` meets its contract.
 use borrow.Author.Needs.{needs}
-use Rattle.lookup.proofs.Maps.{fits, map-held}
+use Rattle.fitness.proofs.Maps.{fits, map-held}
 use Rattle.lookup.proofs.Lists.{nth-is}
 use Rattle.lookup.proofs.nth.Statement.{statement}
 use Rattle.lookup.proofs.nth.Tie as tie

@@ -1,6 +1,6 @@
 -- `output_script::output_script` meets its contract.
 use borrow.Author.Needs.{needs}
-use Rattle.lookup.proofs.Maps.{fits}
+use Rattle.fitness.proofs.Maps.{fits}
 use Rattle.output_script.proofs.Scripts.{public}
 use Rattle.output_script.proofs.output_script.Statement.{statement}
 use Rattle.output_script.proofs.output_script.Tie as tie

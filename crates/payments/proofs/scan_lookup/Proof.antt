@@ -1,7 +1,7 @@
 -- `payments::scan_lookup` meets its contract.
 use borrow.Author.Needs.{needs}
 use Rattle.format.specs.Fields.{scanLookup}
-use Rattle.lookup.specs.Walks.{lengthOf}
+use Rattle.lookup.specs.Finds.{lengthOf}
 use Rattle.payments.proofs.scan_lookup.Statement.{statement}
 use Rattle.payments.proofs.scan_lookup.Tie as tie
 

@@ -1,6 +1,6 @@
 -- `typed::input_number` meets its contract.
 use borrow.Author.Needs.{needs}
-use Rattle.lookup.proofs.Maps.{fits, input-held}
+use Rattle.fitness.proofs.Maps.{fits, input-held}
 use Rattle.typed.proofs.Fields.{asked-of}
 use Rattle.typed.proofs.input_number.Statement.{statement}
 use Rattle.typed.proofs.input_number.Tie as tie

@@ -1,6 +1,6 @@
 -- `typed::input_part` meets its contract.
 use borrow.Author.Needs.{needs}
-use Rattle.lookup.proofs.Maps.{fits, input-held}
+use Rattle.fitness.proofs.Maps.{fits, input-held}
 use Rattle.typed.proofs.Fields.{asked-of}
 use Rattle.typed.proofs.input_part.Statement.{statement}
 use Rattle.typed.proofs.input_part.Tie as tie

@@ -1,6 +1,6 @@
 -- `typed::output_number` meets its contract.
 use borrow.Author.Needs.{needs}
-use Rattle.lookup.proofs.Maps.{fits, output-held}
+use Rattle.fitness.proofs.Maps.{fits, output-held}
 use Rattle.typed.proofs.Fields.{asked-of}
 use Rattle.typed.proofs.output_number.Statement.{statement}
 use Rattle.typed.proofs.output_number.Tie as tie

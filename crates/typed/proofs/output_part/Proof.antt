@@ -1,6 +1,6 @@
 -- `typed::output_part` meets its contract.
 use borrow.Author.Needs.{needs}
-use Rattle.lookup.proofs.Maps.{fits, output-held}
+use Rattle.fitness.proofs.Maps.{fits, output-held}
 use Rattle.typed.proofs.Fields.{asked-of}
 use Rattle.typed.proofs.output_part.Statement.{statement}
 use Rattle.typed.proofs.output_part.Tie as tie

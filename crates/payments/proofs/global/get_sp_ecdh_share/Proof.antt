@@ -1,7 +1,7 @@
 -- `payments::global::get_sp_ecdh_share` meets its contract.
 use borrow.Author.Needs.{needs}
 use Rattle.format.specs.Fields.{globalShare}
-use Rattle.lookup.proofs.Maps.{fits, map-held}
+use Rattle.fitness.proofs.Maps.{fits, map-held}
 use Rattle.payments.proofs.Joins.{of-maps}
 use Rattle.payments.proofs.global.get_sp_ecdh_share.Statement.{statement}
 use Rattle.payments.proofs.global.get_sp_ecdh_share.Tie as tie

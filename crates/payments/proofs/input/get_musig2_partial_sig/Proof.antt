@@ -1,7 +1,7 @@
 -- `payments::input::get_musig2_partial_sig` meets its contract.
 use borrow.Author.Needs.{needs}
 use Rattle.format.specs.Fields.{partialSig}
-use Rattle.lookup.proofs.Maps.{fits, input-held}
+use Rattle.fitness.proofs.Maps.{fits, input-held}
 use Rattle.payments.proofs.Joins.{of-maps}
 use Rattle.payments.proofs.input.get_musig2_partial_sig.Statement.{statement}
 use Rattle.payments.proofs.input.get_musig2_partial_sig.Tie as tie

@@ -1,6 +1,6 @@
 -- `payments::input::get_musig2_participant_pubkeys` meets its contract.
 use borrow.Author.Needs.{needs}
-use Rattle.lookup.proofs.Maps.{fits, input-held}
+use Rattle.fitness.proofs.Maps.{fits, input-held}
 use Rattle.payments.proofs.Joins.{of-maps}
 use Rattle.payments.proofs.input.get_musig2_participant_pubkeys.Statement.{statement}
 use Rattle.payments.proofs.input.get_musig2_participant_pubkeys.Tie as tie

@@ -1,7 +1,7 @@
 -- `payments::input::get_musig2_pub_nonce` meets its contract.
 use borrow.Author.Needs.{needs}
 use Rattle.format.specs.Fields.{pubNonce}
-use Rattle.lookup.proofs.Maps.{fits, input-held}
+use Rattle.fitness.proofs.Maps.{fits, input-held}
 use Rattle.payments.proofs.Joins.{of-maps}
 use Rattle.payments.proofs.input.get_musig2_pub_nonce.Statement.{statement}
 use Rattle.payments.proofs.input.get_musig2_pub_nonce.Tie as tie

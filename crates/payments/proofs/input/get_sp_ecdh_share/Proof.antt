@@ -1,7 +1,7 @@
 -- `payments::input::get_sp_ecdh_share` meets its contract.
 use borrow.Author.Needs.{needs}
 use Rattle.format.specs.Fields.{inputShare}
-use Rattle.lookup.proofs.Maps.{fits, input-held}
+use Rattle.fitness.proofs.Maps.{fits, input-held}
 use Rattle.payments.proofs.Joins.{of-maps}
 use Rattle.payments.proofs.input.get_sp_ecdh_share.Statement.{statement}
 use Rattle.payments.proofs.input.get_sp_ecdh_share.Tie as tie

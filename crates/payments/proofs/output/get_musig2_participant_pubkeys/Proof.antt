@@ -1,6 +1,6 @@
 -- `payments::output::get_musig2_participant_pubkeys` meets its contract.
 use borrow.Author.Needs.{needs}
-use Rattle.lookup.proofs.Maps.{fits, output-held}
+use Rattle.fitness.proofs.Maps.{fits, output-held}
 use Rattle.payments.proofs.Joins.{of-maps}
 use Rattle.payments.proofs.output.get_musig2_participant_pubkeys.Statement.{statement}
 use Rattle.payments.proofs.output.get_musig2_participant_pubkeys.Tie as tie

@@ -1,7 +1,7 @@
 -- `typed::input::final_scriptsig` meets its contract.
 use borrow.Author.Needs.{needs}
 use Rattle.format.specs.Fields.{finalScriptsig}
-use Rattle.lookup.specs.Walks.{lengthOf}
+use Rattle.lookup.specs.Finds.{lengthOf}
 use Rattle.typed.proofs.input.final_scriptsig.Statement.{statement}
 use Rattle.typed.proofs.input.final_scriptsig.Tie as tie
 

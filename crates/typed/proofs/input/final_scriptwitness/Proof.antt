@@ -1,7 +1,7 @@
 -- `typed::input::final_scriptwitness` meets its contract.
 use borrow.Author.Needs.{needs}
 use Rattle.format.specs.Fields.{finalScriptwitness}
-use Rattle.lookup.specs.Walks.{lengthOf}
+use Rattle.lookup.specs.Finds.{lengthOf}
 use Rattle.typed.proofs.input.final_scriptwitness.Statement.{statement}
 use Rattle.typed.proofs.input.final_scriptwitness.Tie as tie
 

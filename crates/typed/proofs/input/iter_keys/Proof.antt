@@ -1,6 +1,6 @@
 -- `typed::input::iter_keys` meets its contract.
 use borrow.Author.Needs.{needs}
-use Rattle.lookup.proofs.Maps.{fits, input-held}
+use Rattle.fitness.proofs.Maps.{fits, input-held}
 use Rattle.lookup.proofs.Lists.{list-is}
 use Rattle.typed.proofs.input.iter_keys.Statement.{statement}
 use Rattle.typed.proofs.input.iter_keys.Tie as tie

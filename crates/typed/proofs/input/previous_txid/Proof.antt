@@ -1,7 +1,7 @@
 -- `typed::input::previous_txid` meets its contract.
 use borrow.Author.Needs.{needs}
 use Rattle.format.specs.Fields.{previousTxid}
-use Rattle.lookup.specs.Walks.{lengthOf}
+use Rattle.lookup.specs.Finds.{lengthOf}
 use Rattle.typed.proofs.input.previous_txid.Statement.{statement}
 use Rattle.typed.proofs.input.previous_txid.Tie as tie
 

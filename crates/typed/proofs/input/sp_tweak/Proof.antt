@@ -1,7 +1,7 @@
 -- `typed::input::sp_tweak` meets its contract.
 use borrow.Author.Needs.{needs}
 use Rattle.format.specs.Fields.{spTweak}
-use Rattle.lookup.specs.Walks.{lengthOf}
+use Rattle.lookup.specs.Finds.{lengthOf}
 use Rattle.typed.proofs.input.sp_tweak.Statement.{statement}
 use Rattle.typed.proofs.input.sp_tweak.Tie as tie
 

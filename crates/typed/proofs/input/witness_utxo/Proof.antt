@@ -1,7 +1,7 @@
 -- `typed::input::witness_utxo` meets its contract.
 use borrow.Author.Needs.{needs}
 use Rattle.format.specs.Fields.{witnessUtxo}
-use Rattle.lookup.specs.Walks.{lengthOf}
+use Rattle.lookup.specs.Finds.{lengthOf}
 use Rattle.typed.proofs.input.witness_utxo.Statement.{statement}
 use Rattle.typed.proofs.input.witness_utxo.Tie as tie
 

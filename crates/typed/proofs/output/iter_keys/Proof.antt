@@ -1,6 +1,6 @@
 -- `typed::output::iter_keys` meets its contract.
 use borrow.Author.Needs.{needs}
-use Rattle.lookup.proofs.Maps.{fits, output-held}
+use Rattle.fitness.proofs.Maps.{fits, output-held}
 use Rattle.lookup.proofs.Lists.{list-is}
 use Rattle.typed.proofs.output.iter_keys.Statement.{statement}
 use Rattle.typed.proofs.output.iter_keys.Tie as tie

@@ -1,7 +1,7 @@
 -- `typed::output::script` meets its contract.
 use borrow.Author.Needs.{needs}
 use Rattle.format.specs.Fields.{script}
-use Rattle.lookup.specs.Walks.{lengthOf}
+use Rattle.lookup.specs.Finds.{lengthOf}
 use Rattle.typed.proofs.output.script.Statement.{statement}
 use Rattle.typed.proofs.output.script.Tie as tie
 

@@ -1,7 +1,7 @@
 -- `typed::output::sp_v0_info` meets its contract.
 use borrow.Author.Needs.{needs}
 use Rattle.format.specs.Fields.{spV0Info}
-use Rattle.lookup.specs.Walks.{lengthOf}
+use Rattle.lookup.specs.Finds.{lengthOf}
 use Rattle.typed.proofs.output.sp_v0_info.Statement.{statement}
 use Rattle.typed.proofs.output.sp_v0_info.Tie as tie
 
