@@ -10,7 +10,7 @@
 //! greater of the fallback and ours. Such lines are counted. With `--records` a 22 or 23 must have used up its room, and of the
 //! calls that differ the one over the shortest file is shown. Ends with 1 if anything differed or nothing was compared.
 
-use records::{Call, Memory, Next, Stream, FILL};
+use records::{calls, Call, Memory, Next, Stream, FILL, MOST, OUT};
 use std::collections::BTreeMap;
 use std::fs::File;
 use std::io::{self, BufRead, BufReader};
@@ -27,7 +27,8 @@ fn verdict(line: &str) -> (u32, u32, &str) {
 
 /// A parse that rooms cut short.
 fn short_of_room(line: &str) -> bool {
-    matches!(verdict(line), (0, 22 | 23, _))
+    let (call, number, _) = verdict(line);
+    call == calls::PARSE.into() && matches!(number, 22 | 23)
 }
 
 /// Whether the entries of a line that rooms cut short are the first ones of the other line.
@@ -64,11 +65,14 @@ enum Stands {
 }
 
 fn stands(ours: &str, theirs: &str) -> Stands {
-    let (their_line, fallback) = theirs.split_once(" fallback ").unwrap_or((theirs, ""));
-    if ours == their_line {
+    if ours == theirs {
         return Stands::Equal;
     }
-    match (lock_of(ours), lock_of(their_line), fallback.parse::<u32>()) {
+    let Some((theirs, fallback)) = theirs.split_once(" fallback ") else { return Stands::Differs };
+    if ours == theirs {
+        return Stands::Equal;
+    }
+    match (lock_of(ours), lock_of(theirs), fallback.parse::<u32>()) {
         (Some((our_rest, our_lock)), Some((their_rest, their_lock)), Ok(fallback))
             if our_rest == their_rest && their_lock == our_lock.max(fallback) =>
         {
@@ -79,10 +83,10 @@ fn stands(ours: &str, theirs: &str) -> Stands {
 }
 
 /// The line of a transaction without its lock, and the lock. Bytes at the end that are as the fill were left off: the
-/// transaction's length, the second of its values, tells how many.
+/// transaction's length, the first of its values, tells how many.
 fn lock_of(line: &str) -> Option<(String, u32)> {
-    let (head, hex) = line.split_once(" : ")?;
-    let length: usize = head.split(' ').nth(3)?.parse().ok()?;
+    let (head, hex) = line.split_once(" : ").filter(|_| verdict(line) == (calls::TX.into(), 0, ""))?;
+    let length: usize = head.split(' ').nth(3)?.parse().ok().filter(|length| *length <= MOST[usize::from(OUT)])?;
     let mut hex = hex.to_string();
     while hex.len() < 2 * length {
         hex.push_str(&format!("{FILL:02x}"));

@@ -3,8 +3,8 @@
 use crate::draft::put_size;
 use crate::group::{ample, Group, Sink};
 use crate::questions::{lookups, transaction, tx_room, Way, ENTRY};
-use records::calls::{PARSE, SET, SET_TWO};
-use records::{BUFFER, LIST, MAPS, MOST, PAIRS, REPORT, SCRIPTS, STATE};
+use records::calls;
+use records::{BUFFER, LIST, MAPS, MOST, OUT, PAIRS, REPORT, SCRIPTS, STATE};
 use std::io::{self, Write};
 
 fn hex(text: &str) -> Vec<u8> {
@@ -370,7 +370,7 @@ fn setters<W: Write>(sink: &mut Sink<W>) -> io::Result<()> {
         (2, [0, 0, 1, 34], [0, 0], entries),
         (2, [0, 0, 1, 34], [0, 0], entries - 1),
     ] {
-        for call in [SET, SET_TWO] {
+        for call in [calls::SET, calls::SET_TWO] {
             let mut group = Group::of(&[0]);
             group.words(PAIRS, &[0; 4]);
             group.words(MAPS, &[0; 6]);
@@ -383,6 +383,36 @@ fn setters<W: Write>(sink: &mut Sink<W>) -> io::Result<()> {
             sink.put("setter", &group)?;
         }
     }
+    Ok(())
+}
+
+/// Memory that nothing is stored in, that is missing or that a file has taken back, and longer spellings of arguments.
+fn memories<W: Write>(sink: &mut Sink<W>) -> io::Result<()> {
+    let mut asked = |mut group: Group| {
+        for call in [calls::LOCK, calls::SET, calls::TX, calls::SET_TWO, calls::NTH, calls::IN_SEQUENCE, calls::SCRIPT]
+        {
+            group.ask(call, &[]);
+        }
+        sink.put("memory", &group)
+    };
+    asked(Group::of(&f()))?;
+    asked(parsed(&f()))?;
+    for words in 0..=8 {
+        let mut group = parsed(&f());
+        group.room(REPORT, words);
+        group.room(STATE, words.min(2));
+        asked(group)?;
+        let mut group = parsed(&e());
+        group.numbers(REPORT, &[7, 1 << 31, u64::MAX - 1, 0, 0, 0, 1, 1][..words]);
+        group.room(OUT, 20);
+        asked(group)?;
+    }
+    let mut group = parsed(&rich());
+    for form in 0..4 {
+        group.ask_in_form(calls::NTH, &[0, 3], form);
+        group.ask_in_form(calls::LISTED, &[0, 0x1fc], form);
+    }
+    sink.put("memory", &group)?;
     Ok(())
 }
 
@@ -482,9 +512,10 @@ pub fn all<W: Write>(sink: &mut Sink<W>) -> io::Result<()> {
         let mut group = Group::of(&file);
         group.words(PAIRS, &(1..=120).collect::<Vec<u32>>());
         group.words(MAPS, &(201..=220).collect::<Vec<u32>>());
-        group.ask(PARSE, &[]);
+        group.ask(calls::PARSE, &[]);
         sink.put("used tables", &group)?;
     }
+    memories(sink)?;
     setters(sink)
 }
 

@@ -59,18 +59,22 @@ impl Group {
         self.bytes(BUFFER, &file[..file.len().min(MOST[usize::from(BUFFER)])]);
     }
 
-    /// Arguments that are 0 at the end are left off.
-    fn call(number: u8, arguments: &[u64]) -> Vec<u8> {
+    /// Arguments that are 0 at the end are left off; the others are compact sizes of at least this form.
+    fn call(number: u8, arguments: &[u64], form: u8) -> Vec<u8> {
         let count = arguments.iter().rposition(|argument| *argument != 0).map_or(0, |last| last + 1);
         let mut call = vec![number, count as u8];
         for argument in &arguments[..count] {
-            put_size(&mut call, *argument, 0);
+            put_size(&mut call, *argument, form);
         }
         call
     }
 
     pub fn ask(&mut self, number: u8, arguments: &[u64]) {
-        let call = Self::call(number, arguments);
+        self.ask_in_form(number, arguments, 0);
+    }
+
+    pub fn ask_in_form(&mut self, number: u8, arguments: &[u64], form: u8) {
+        let call = Self::call(number, arguments, form);
         match self.records.last_mut() {
             Some(last) if last.kind == CALLS => last.body.extend(call),
             _ => self.lend(CALLS, 0, call),
@@ -79,7 +83,7 @@ impl Group {
     }
 
     pub fn ask_once(&mut self, number: u8, arguments: &[u64]) {
-        if self.asked.insert(Self::call(number, arguments)) {
+        if self.asked.insert(Self::call(number, arguments, 0)) {
             self.ask(number, arguments);
         }
     }

@@ -9,6 +9,9 @@ pub type Numbered = Result<Option<u64>, u32>;
 /// The first pair's number in its map, and how many there are.
 pub type Listing = Result<(usize, usize), u32>;
 
+/// How many bytes of a part a line shows.
+const SHOWN: usize = 65_536;
+
 /// What a call writes or hands back.
 #[derive(Debug, Clone, PartialEq, Eq)]
 pub enum Left {
@@ -85,7 +88,7 @@ impl Answer {
                 }
             }
             Left::Bytes(bytes) => put_hex(&mut line, before(bytes, FILL)),
-            Left::Part(part) => put_hex(&mut line, part),
+            Left::Part(part) => put_hex(&mut line, &part[..part.len().min(SHOWN)]),
         }
         if let Some(fallback) = self.fallback {
             write!(line, " fallback {fallback}").unwrap();
