@@ -18,11 +18,12 @@ work=$(mktemp -d)
 trap 'rm -rf "$work"' EXIT
 failed=0
 
-# compared NAME OURS THEIRS [--whole]: keeps what was said, shows it only where something differed.
+# compared NAME OURS THEIRS [--whole]: keeps what was said, shows its last line, and all of it where something differed.
 compared() {
   name=$1
   shift
-  "$bin/compare" "$@" --records "$work/records" >"$work/said" || { failed=1; echo "$name, $set:"; cat "$work/said"; }
+  "$bin/compare" "$@" --records "$work/records" >"$work/said" || { failed=1; cat "$work/said"; }
+  echo "  $name: $(tail -n 1 "$work/said")"
   cat "$work/said" >>"$work/$name"
 }
 
