@@ -1,13 +1,13 @@
 #!/bin/sh
 # Shows that the comparison can fail: damages a copy of the original, one way at a time, builds the harness over it and
-# compares its answers with the given ones. A damage that no answer shows is a hole in the records.
+# compares its lines with the given ones. A damage that no line shows is a hole in the records.
 #
-#     damage.sh ORIGINAL RECORDS ANSWERS
+#     damage.sh ORIGINAL RECORDS LINES
 #
-# ANSWERS are those of `answers` or of `model` for RECORDS. Needs the release builds of this folder. Leaves nothing behind.
+# LINES are those of `answers` or of `model` for RECORDS. Needs the release builds of this folder. Leaves nothing behind.
 set -eu
 [ $# -eq 3 ] || { sed -n '2,8s/^# \{0,1\}//p' "$0" >&2; exit 2; }
-original=$1 records=$2 answers=$3
+original=$1 records=$2 lines=$3
 here=$(cd "$(dirname "$0")" && pwd)
 work=$(mktemp -d)
 trap 'rm -rf "$work"' EXIT
@@ -15,22 +15,22 @@ trap 'rm -rf "$work"' EXIT
 made=0
 noticed=0
 
-# Builds over the copy, answers the records and compares.
+# Builds over the copy, answers the calls and compares.
 answer() {
   FASTPSBT_RS="$work/fastpsbt.rs" CARGO_TARGET_DIR="$work/target" \
     cargo build --quiet --offline --release --manifest-path "$here/Cargo.toml" -p harness >"$work/build" 2>&1 ||
     { echo "doesn't build: $1" >&2; cat "$work/build" >&2; exit 1; }
   # A damaged reader may stop: the lines that are missing then differ.
   "$work/target/release/harness" <"$records" >"$work/theirs" 2>/dev/null || true
-  "$here/target/release/compare" "$answers" "$work/theirs" >"$work/said" && same=0 || same=$?
+  "$here/target/release/compare" "$lines" "$work/theirs" >"$work/said" && same=0 || same=$?
   [ "$same" -le 1 ] || { echo "not compared: $1" >&2; exit 1; }
 }
 
 damage() {
   sed "$2" "$original" >"$work/fastpsbt.rs"
   # One line, no more and no less.
-  lines=$(diff "$original" "$work/fastpsbt.rs" | grep -c '^>' || true)
-  [ "$lines" -eq 1 ] || { echo "changes $lines lines: $1" >&2; exit 1; }
+  changed=$(diff "$original" "$work/fastpsbt.rs" | grep -c '^>' || true)
+  [ "$changed" -eq 1 ] || { echo "changes $changed lines: $1" >&2; exit 1; }
   answer "$1"
   made=$((made + 1))
   if [ "$same" -eq 1 ]; then

@@ -1,10 +1,10 @@
 #!/bin/sh
-# Compares by running: the records by name, the long ones, and of each seed COUNT generated ones of each kind.
+# Compares by running: the files by name, the long ones, and of each seed COUNT generated ones for each kind of question.
 #
 #     FASTPSBT_RS=ORIGINAL [ANSWERS=PROGRAM] [KINDS="parses lookups transactions tables"] run.sh COUNT SEED..
 #
 # Three ways: PROGRAM (the built program `answers`) with the original and with the model, and the model with the original.
-# Without ANSWERS only the last. Tables that a record carries are unknown to the original: there only PROGRAM and the model.
+# Without ANSWERS only the last. Tables that are lent are mostly unknown to the original: there only PROGRAM and the model.
 # Ends with 0 if nothing differed.
 set -eu
 [ $# -ge 2 ] || { sed -n '2,8s/^# \{0,1\}//p' "$0" >&2; exit 2; }
@@ -18,11 +18,12 @@ work=$(mktemp -d)
 trap 'rm -rf "$work"' EXIT
 failed=0
 
-# compared NAME OURS THEIRS [--whole]: keeps what was said, shows it only where something differed.
+# compared NAME OURS THEIRS [--whole]: keeps what was said, shows its last line, and all of it where something differed.
 compared() {
   name=$1
   shift
-  "$bin/compare" "$@" --records "$work/records" >"$work/said" || { failed=1; echo "$name, $set:"; cat "$work/said"; }
+  "$bin/compare" "$@" --records "$work/records" >"$work/said" || { failed=1; cat "$work/said"; }
+  echo "  $name: $(tail -n 1 "$work/said")"
   cat "$work/said" >>"$work/$name"
 }
 
@@ -64,15 +65,14 @@ done
 for name in model-original answers-original answers-model; do
   [ -f "$work/$name" ] || continue
   echo "$name"
-  awk '
-    $1 == "compared" { gsub(/[(,]/, ""); c += $2; n += $3; e += $8; s += $10; d += $12; g += $15 }
-    ($1 == "no" && NF == 4) || ($1 == "ok" && NF == 3) {
-      v = $1 == "no" ? "no " $2 : "ok"; all[v] += $(NF - 1); other[v] += $NF
-    }
+  echo "call number     lines differing"
+  awk 'NF == 4 && $1 ~ /^[0-9]+$/ { all[$1 " " $2] += $3; other[$1 " " $2] += $4 }
+    END { for (v in all) { split(v, w, " "); printf "%4d %6d %9d %9d\n", w[1], w[2], all[v], other[v] } }' \
+    "$work/$name" | sort -n -k 1,1 -k 2,2
+  awk '$1 == "compared" { gsub(/,/, ""); c += $2; e += $4; g += $7; d += $9; n += $11; s += $16 }
     END {
-      if ("ok" in all) printf "%8s %9d %9d\n", "ok", all["ok"], other["ok"]
-      for (i = 1; i <= 30; i++) if (("no " i) in all) printf "%8s %9d %9d\n", "no " i, all["no " i], other["no " i]
-      printf "compared %d (%d by number alone), equal %d, skipped %d, differing %d, greater locks %d\n", c, n, e, s, d, g
+      printf "compared %d, equal %d, greater locks %d, differing %d, skipped %d without an answer and %d short of room\n",
+        c, e, g, d, n, s
     }' "$work/$name"
 done
 exit $failed

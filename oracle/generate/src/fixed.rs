@@ -1,7 +1,10 @@
 //! Files by name: the proved examples, the remembered vectors, the cases of BIP-370, and everything about short ones.
 
 use crate::draft::put_size;
-use crate::{Sink, AMPLE};
+use crate::group::{ample, Group, Sink};
+use crate::questions::{lookups, transaction, tx_room, Way, ENTRY};
+use records::calls;
+use records::{BUFFER, LIST, MAPS, MOST, OUT, PAIRS, REPORT, SCRIPTS, STATE};
 use std::io::{self, Write};
 
 fn hex(text: &str) -> Vec<u8> {
@@ -192,8 +195,11 @@ fn corners() -> Vec<Vec<u8>> {
             files.push(maps(&[&pairs, &[], &[], &[]]));
         }
     }
-    // Every sized type, with key data and value of 0 to 70 bytes.
+    // Every sized type, with key data and value of 0 to 70 bytes, and some that have no size.
     for (kind, key_type) in [
+        (0, "00"),
+        (0, "02"),
+        (0, "fb"),
         (0, "03"),
         (0, "06"),
         (0, "07"),
@@ -211,6 +217,10 @@ fn corners() -> Vec<Vec<u8>> {
         (2, "03"),
         (2, "09"),
         (2, "0a"),
+        (1, "00"),
+        (1, "04"),
+        (1, "19"),
+        (2, "07"),
     ] {
         for data in [0, 1, 32, 33, 34] {
             for value in [0, 1, 2, 3, 4, 5, 7, 8, 9, 12, 31, 32, 33, 34, 63, 64, 65, 66, 67] {
@@ -222,9 +232,11 @@ fn corners() -> Vec<Vec<u8>> {
                     many("07", value)
                 );
                 let mut pairs: [Vec<&str>; 3] = [global.to_vec(), vec![], vec![SCRIPT]];
+                // In place of one with its key.
+                pairs[kind].retain(|other| data > 0 || other[..4] != pair[..4]);
                 pairs[kind].push(&pair);
-                // By key: the type is the second byte of a pair.
-                pairs[kind].sort_by(|a, b| a[2..].cmp(&b[2..]));
+                // By key: the first byte of a pair is its length.
+                pairs[kind].sort_by_key(|pair| &pair[2..2 + 2 * usize::from_str_radix(&pair[..2], 16).unwrap()]);
                 files.push(maps(&[&pairs[0], &pairs[1], &pairs[2]]));
             }
         }
@@ -257,7 +269,156 @@ fn corners() -> Vec<Vec<u8>> {
         files.push(maps(&[&[TX, pair, "01040100", "01050100", VERSION]]));
     }
     files.extend(forms(&[0xfc, 0xfd, 0xff, 0x100]));
+    files.extend(sizes());
+    files.extend(orders());
     files
+}
+
+/// The bounds of a compact size, in the shortest form and in longer ones, as the length of a key, of a value and as a count, each
+/// without its last byte too; and counts with as many maps behind them.
+fn sizes() -> Vec<Vec<u8>> {
+    let mut files = Vec::new();
+    for size in [
+        "00",
+        "fc",
+        "fdfc00",
+        "fdfd00",
+        "fefd000000",
+        "fdffff",
+        "feffff0000",
+        "fe00000100",
+        "ff0000010000000000",
+        "feffffffff",
+        "ff0000000001000000",
+        "ffffffffffffffffff",
+    ] {
+        for size in [size, &size[..size.len() - 2]] {
+            // A key and a value whose bytes are missing, or begin.
+            for behind in ["", "31"] {
+                files.push([hex(MAGIC), hex(TX), hex(size), hex(behind)].concat());
+                files.push([hex(MAGIC), hex(TX), hex("0103"), hex(size), hex(behind)].concat());
+            }
+            let (inputs, outputs) =
+                (format!("0104{:02x}{size}", size.len() / 2), format!("0105{:02x}{size}", size.len() / 2));
+            files.push(maps(&[&[TX, &inputs, "01050100", VERSION]]));
+            files.push(maps(&[&[TX, "01040100", &outputs, VERSION]]));
+        }
+    }
+    for (size, number) in
+        [("fc", 252), ("fdfc00", 252), ("fefc000000", 252), ("fdfd00", 253), ("fefd000000", 253), ("fd0001", 256)]
+    {
+        let inputs = format!("0104{:02x}{size}", size.len() / 2);
+        for ends in [number - 1, number, number + 1] {
+            let mut file = maps(&[&[TX, &inputs, "01050100", VERSION]]);
+            file.extend(vec![0; ends]);
+            files.push(file);
+        }
+    }
+    files
+}
+
+/// Two keys of an input, in either order: prefixes, keys of 1, 8 and 9 bytes, first bytes that decide, the same key.
+fn orders() -> Vec<Vec<u8>> {
+    let mut files = Vec::new();
+    for (one, other) in [
+        ("01", "01"),
+        ("01", "0100"),
+        ("01ff", "02"),
+        ("7f", "80"),
+        ("00", "ff"),
+        ("0102030405060708", "0102030405060708"),
+        ("0102030405060708", "0102030405060709"),
+        ("010203040506070809", "0102030405060708"),
+        ("010203040506070809", "01020304050607080a"),
+        ("0201010101010101", "0102020202020202"),
+        ("0101010101010101ff", "0101010101010102"),
+        ("0101010180", "0101010108"),
+        ("01010101", "010101010101010101"),
+    ] {
+        for (first, second) in [(one, other), (other, one)] {
+            let pair = |key: &str| format!("{:02x}{key}0151", key.len() / 2);
+            files.push(maps(&[&[TX, "01040101", "01050100", VERSION], &[&pair(first), &pair(second)]]));
+        }
+    }
+    files
+}
+
+/// Both setters on two assignments, over tables that are given: no inputs, and outputs whose maps are empty, as far as there are
+/// maps.
+fn setters<W: Write>(sink: &mut Sink<W>) -> io::Result<()> {
+    // Two taproot scripts, then bytes that are none.
+    let mut buffer = [0x33; 102];
+    buffer[..3].copy_from_slice(&[0x51, 0x20, 0x11]);
+    buffer[34..37].copy_from_slice(&[0x51, 0x20, 0x22]);
+    let entries = 2 * ENTRY;
+    for (outputs, list, state, room) in [
+        (2, [0, 0, 1, 34], [0, 0], entries + 2),
+        (2, [1, 0, 0, 34], [0, 0], entries + 2),
+        (2, [0, 0, 0, 34], [0, 0], entries + 2),
+        (1, [0, 0, 0, 34], [0, 0], entries + 2),
+        (2, [0, 0, 2, 34], [0, 0], entries + 2),
+        (1, [0, 0, 1, 34], [0, 0], entries + 2),
+        (2, [0, 1, 1, 34], [0, 0], entries + 2),
+        (2, [0, 68, 1, 34], [0, 0], entries + 2),
+        (2, [0, 69, 1, 34], [0, 0], entries + 2),
+        (2, [0, u64::MAX, 1, 34], [0, 0], entries + 2),
+        (2, [u64::MAX, 0, 1, 34], [0, 0], entries + 2),
+        (0, [0, 0, 1, 34], [0, 0], entries + 2),
+        (3, [0, 0, 1, 34], [0, 0], entries + 2),
+        (2, [0, 0, 1, 34], [1, 0], entries + 2),
+        (2, [0, 0, 1, 34], [0, 1], entries + 2),
+        (2, [0, 0, 1, 34], [0, 0], entries),
+        (2, [0, 0, 1, 34], [0, 0], entries - 1),
+    ] {
+        for call in [calls::SET, calls::SET_TWO] {
+            let mut group = Group::of(&[0]);
+            group.words(PAIRS, &[0; 4]);
+            group.words(MAPS, &[0; 6]);
+            group.numbers(REPORT, &[7, 2, u64::MAX, u64::MAX, 0, outputs, 0, 3]);
+            group.numbers(LIST, &[list[0], list[1], 34, list[2], list[3], 34]);
+            group.bytes(BUFFER, &buffer);
+            group.room(SCRIPTS, room);
+            group.numbers(STATE, &state);
+            group.ask(call, &[]);
+            sink.put("setter", &group)?;
+        }
+    }
+    Ok(())
+}
+
+/// Memory that nothing is stored in, that is missing or that a file has taken back, and longer spellings of arguments.
+fn memories<W: Write>(sink: &mut Sink<W>) -> io::Result<()> {
+    let mut asked = |mut group: Group| {
+        for call in [calls::LOCK, calls::SET, calls::TX, calls::SET_TWO, calls::NTH, calls::IN_SEQUENCE, calls::SCRIPT]
+        {
+            group.ask(call, &[]);
+        }
+        sink.put("memory", &group)
+    };
+    asked(Group::of(&f()))?;
+    asked(parsed(&f()))?;
+    for words in 0..=8 {
+        let mut group = parsed(&f());
+        group.room(REPORT, words);
+        group.room(STATE, words.min(2));
+        asked(group)?;
+        let mut group = parsed(&e());
+        group.numbers(REPORT, &[7, 1 << 31, u64::MAX - 1, 0, 0, 0, 1, 1][..words]);
+        group.room(OUT, 20);
+        asked(group)?;
+    }
+    let mut group = parsed(&rich());
+    for form in 0..4 {
+        group.ask_in_form(calls::NTH, &[0, 3], form);
+        group.ask_in_form(calls::LISTED, &[0, 0x1fc], form);
+    }
+    sink.put("memory", &group)?;
+    Ok(())
+}
+
+/// A parse with ample room.
+fn parsed(file: &[u8]) -> Group {
+    Group::parsed(file, ample(file.len()))
 }
 
 /// Keys and values of these lengths, their compact sizes in every form that holds them.
@@ -304,31 +465,31 @@ fn rich() -> Vec<u8> {
 
 pub fn all<W: Write>(sink: &mut Sink<W>) -> io::Result<()> {
     for file in examples() {
-        sink.put("example", AMPLE, &file)?;
+        sink.put("example", &parsed(&file))?;
     }
     for text in [REQUIRED_ONLY, WITH_PREVIOUS] {
-        sink.put("vector", AMPLE, &base64(text))?;
+        sink.put("vector", &parsed(&base64(text)))?;
     }
     for file in bip_370() {
-        sink.put("case of BIP-370", AMPLE, &file)?;
+        sink.put("case of BIP-370", &parsed(&file))?;
     }
     for file in corners() {
-        sink.put("corner", AMPLE, &file)?;
+        sink.put("corner", &parsed(&file))?;
     }
-    sink.put("rich", AMPLE, &rich())?;
+    sink.put("rich", &parsed(&rich()))?;
     for file in [e(), f(), rich(), base64(REQUIRED_ONLY)] {
         for end in 0..file.len() {
-            sink.put("every cut", AMPLE, &file[..end])?;
+            sink.put("every cut", &parsed(&file[..end]))?;
         }
     }
     for file in [e(), f()] {
         for at in 0..8 * file.len() {
             let mut flipped = file.clone();
             flipped[at / 8] ^= 1 << (at % 8);
-            sink.put("every flipped bit", AMPLE, &flipped)?;
+            sink.put("every flipped bit", &parsed(&flipped))?;
         }
     }
-    // Every room from none to one more than needed; also for files that are refused anyway.
+    // Every room from none to one entry more than needed; also for files that are refused anyway.
     let mut cut = f();
     cut.truncate(80);
     let mut longer = f();
@@ -339,36 +500,47 @@ pub fn all<W: Write>(sink: &mut Sink<W>) -> io::Result<()> {
         let (pairs, maps) = if file.len() > 100 { (24, 5) } else { (9, 4) };
         for pairs in 0..=pairs {
             for maps in 0..=maps {
-                sink.put("every room", (pairs, maps), &file)?;
+                sink.put("every room", &Group::parsed(&file, (4 * pairs, 2 * maps)))?;
             }
         }
     }
-    Ok(())
+    // Rooms with a part of an entry, and tables that held something before.
+    for words in 0..=37 {
+        sink.put("words", &Group::parsed(&f(), (words, 7)))?;
+    }
+    for file in [e(), f(), rich(), f()[..80].to_vec()] {
+        let mut group = Group::of(&file);
+        group.words(PAIRS, &(1..=120).collect::<Vec<u32>>());
+        group.words(MAPS, &(201..=220).collect::<Vec<u32>>());
+        group.ask(calls::PARSE, &[]);
+        sink.put("used tables", &group)?;
+    }
+    memories(sink)?;
+    setters(sink)
 }
 
 /// What lookups and transactions say of the files by name.
 pub fn asked<W: Write>(sink: &mut Sink<W>) -> io::Result<()> {
-    let room = records::TX_ROOM as u32;
     let named = examples().into_iter().chain([base64(REQUIRED_ONLY), base64(WITH_PREVIOUS), rich()]).chain(bip_370());
     for file in named {
-        sink.put_kind(records::LOOKUPS, "lookups", (0, 0), &file)?;
-        sink.put_kind(records::TX, "transaction", (0, room), &file)?;
-        sink.put_kind(records::SCRIPTED, "with scripts", (0, room), &file)?;
+        sink.put("lookups", &lookups(&file))?;
+        sink.put("transaction", &transaction(&file, None, tx_room(file.len())))?;
+        sink.put("with scripts", &transaction(&file, Some(Way::RIGHT), tx_room(file.len())))?;
     }
     for file in witness_utxos().into_iter().chain(signers()) {
-        sink.put_kind(records::LOOKUPS, "lookups", (0, 0), &file)?;
+        sink.put("lookups", &lookups(&file))?;
     }
     for file in [e(), f(), rich(), waiting()] {
-        for way in 0..records::WAYS {
-            sink.put_kind(records::SCRIPTED, "every way to set", (way, room), &file)?;
+        for way in 0..Way::MANY {
+            sink.put("every way to set", &transaction(&file, Some(Way::numbered(way)), tx_room(file.len())))?;
         }
     }
     // Rooms about the lengths of the transactions, 61 and 147.
     for room in (0..=4).chain(58..=64) {
-        sink.put_kind(records::TX, "room", (0, room), &f())?;
+        sink.put("room", &transaction(&f(), None, room))?;
     }
     for room in (0..=4).chain(144..=150) {
-        sink.put_kind(records::SCRIPTED, "room", (0, room), &waiting())?;
+        sink.put("room", &transaction(&waiting(), Some(Way::RIGHT), room))?;
     }
     Ok(())
 }
@@ -439,17 +611,18 @@ pub fn long<W: Write>(sink: &mut Sink<W>) -> io::Result<()> {
         file
     };
     let limit = records::LIMIT;
-    sink.put("length", AMPLE, &filled(limit - 1))?;
-    sink.put("length", AMPLE, &filled(limit))?;
-    sink.put("length", AMPLE, &filled(limit + 1))?;
-    sink.put("length", (0, 0), &filled(limit + 1))?;
-    sink.put("length", AMPLE, &vec![0; limit])?;
-    sink.put("length", AMPLE, &vec![0; limit + 1])?;
+    for length in [limit - 1, limit, limit + 1] {
+        sink.put("length", &parsed(&filled(length)))?;
+    }
+    sink.put("length", &Group::parsed(&filled(limit + 1), (0, 0)))?;
+    sink.put("length", &parsed(&vec![0; limit]))?;
+    sink.put("length", &parsed(&vec![0; limit + 1]))?;
     for file in forms(&[0xffff, 0x1_0000]) {
-        sink.put("form", AMPLE, &file)?;
+        sink.put("form", &parsed(&file))?;
     }
     // As many pairs and maps as there is room for, and one more.
-    for pairs in [records::PAIRS, records::PAIRS + 1] {
+    let (most_pairs, most_maps) = (MOST[usize::from(PAIRS)], MOST[usize::from(MAPS)]);
+    for pairs in [most_pairs / 4, most_pairs / 4 + 1] {
         let mut file = e();
         file.pop();
         for number in 0..pairs - 4 {
@@ -458,10 +631,11 @@ pub fn long<W: Write>(sink: &mut Sink<W>) -> io::Result<()> {
             file.push(0);
         }
         file.push(0);
-        sink.put("pair room", AMPLE, &file)?;
-        sink.put("pair room", (u32::MAX, u32::MAX), &file)?;
+        for words in [most_pairs, most_pairs - 1] {
+            sink.put("pair room", &Group::parsed(&file, (words, most_maps)))?;
+        }
     }
-    for maps in [records::MAPS, records::MAPS + 1] {
+    for maps in [most_maps / 2, most_maps / 2 + 1] {
         let mut file = hex(MAGIC);
         file.extend(hex(TX));
         file.extend(hex("0104 03fd"));
@@ -469,8 +643,9 @@ pub fn long<W: Write>(sink: &mut Sink<W>) -> io::Result<()> {
         file.extend(hex("01050100"));
         file.extend(hex(VERSION));
         file.extend(vec![0; maps]);
-        sink.put("map room", AMPLE, &file)?;
-        sink.put("map room", (u32::MAX, u32::MAX), &file)?;
+        for words in [most_maps, most_maps - 1] {
+            sink.put("map room", &Group::parsed(&file, (most_pairs, words)))?;
+        }
     }
     Ok(())
 }

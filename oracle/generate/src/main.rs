@@ -1,68 +1,49 @@
 //! Makes records for the comparison.
 //!
-//!     generate SEED COUNT               COUNT parses, the same ones for the same seed
-//!     generate lookups SEED COUNT       as many lookups
-//!     generate transactions SEED COUNT  as many transactions, with and without scripts set
-//!     generate tables SEED COUNT        as many tables that may hold anything
-//!     generate fixed                    the examples, the vectors, every cut and flipped bit of short files, every small room
+//!     generate SEED COUNT               parses of COUNT files, the same ones for the same seed
+//!     generate lookups SEED COUNT       lookups of as many
+//!     generate transactions SEED COUNT  transactions of as many, with and without scripts set
+//!     generate tables SEED COUNT        every call over the tables of as many, which may hold anything
+//!     generate fixed                    parses of the examples, the vectors, corners, every cut and flipped bit of short files, every
+//!                                       small room; both setters over tables that are given
 //!     generate asked                    lookups and transactions of the examples, the vectors and the corners
 //!     generate long                     files about the limits of length and room
 //!
 //! Records go to standard output, a count of what was made to standard error. `compare --count` on somebody's answers tells
-//! how often each refusal occurred.
+//! how often each answer occurred.
 
 mod damage;
 mod draft;
 mod fixed;
+mod group;
+mod questions;
 mod random;
 mod tables;
 mod valid;
 
+use group::{ample, Group, Sink};
+use questions::{tx_room, Way};
 use random::Random;
-use records::{Record, LOOKUPS, MAPS, PAIRS, PARSE, SCRIPTED, SET_LATE, TX, TX_ROOM, WAYS};
+use records::{MAPS, MOST, PAIRS};
 use std::collections::BTreeMap;
 use std::io::{self, BufWriter, Write};
 
-pub struct Sink<W: Write> {
-    to: W,
-    left: u64,
-    bytes: u64,
-    made: BTreeMap<&'static str, u64>,
-}
-
-impl<W: Write> Sink<W> {
-    /// One record; `false` once all that were asked for are written.
-    pub fn put(&mut self, what: &'static str, rooms: (u32, u32), file: &[u8]) -> io::Result<bool> {
-        self.put_kind(PARSE, what, rooms, file)
-    }
-
-    pub fn put_kind(&mut self, kind: u8, what: &'static str, rooms: (u32, u32), file: &[u8]) -> io::Result<bool> {
-        if self.left == 0 {
-            return Ok(false);
-        }
-        self.left -= 1;
-        self.bytes += file.len() as u64;
-        *self.made.entry(what).or_default() += 1;
-        records::write(&mut self.to, &Record { kind, pair_room: rooms.0, map_room: rooms.1, file: file.to_vec() })?;
-        Ok(true)
-    }
-}
-
-pub const AMPLE: (u32, u32) = (PAIRS as u32, MAPS as u32);
-
-/// Mostly ample; else from 0 up to one more than needed.
-fn rooms(random: &mut Random, (pairs, maps): (usize, usize)) -> (u32, u32) {
-    let small_pairs = random.below(pairs as u64 + 2) as u32;
-    let small_maps = random.below(maps as u64 + 2) as u32;
+/// Rooms in words: mostly ample; else from 0 up to one entry more than needed.
+fn rooms(random: &mut Random, (pairs, maps): (usize, usize), length: usize) -> (usize, usize) {
+    let ample = ample(length);
+    let small_pairs = 4 * random.between(0, pairs + 1);
+    let small_maps = 2 * random.between(0, maps + 1);
+    let (pairs, maps) = (4 * pairs, 2 * maps);
     match random.below(100) {
-        0..=4 => (small_pairs, AMPLE.1),
-        5..=8 => (AMPLE.0, small_maps),
+        // A part of an entry is no room for one.
+        0..=4 => (small_pairs + random.between(0, 3), ample.1),
+        5..=8 => (ample.0, small_maps + random.between(0, 1)),
         9..=11 => (small_pairs, small_maps),
-        // Exactly what is needed, or one less.
-        12..=13 => ((pairs as u64 - random.below(2).min(pairs as u64)) as u32, maps as u32),
-        14 => (pairs as u32, (maps as u64 - random.below(2)) as u32),
-        15..=17 => (u32::MAX, u32::MAX),
-        _ => AMPLE,
+        // Exactly what is needed, or a little less.
+        12..=13 => (pairs - random.pick(&[0, 1, 4]).min(pairs), maps),
+        14 => (pairs, maps - random.between(0, 2).min(maps)),
+        15 => (MOST[usize::from(PAIRS)], MOST[usize::from(MAPS)]),
+        _ => ample,
     }
 }
 
@@ -73,8 +54,9 @@ fn generated<W: Write>(seed: u64, sink: &mut Sink<W>) -> io::Result<()> {
         match random.below(1_000) {
             // As it is.
             0..=249 => {
-                let rooms = rooms(&mut random, draft.size());
-                if !sink.put("valid", rooms, &draft.bytes())? {
+                let file = draft.bytes();
+                let rooms = rooms(&mut random, draft.size(), file.len());
+                if !sink.put("valid", &Group::parsed(&file, rooms))? {
                     return Ok(());
                 }
             }
@@ -85,8 +67,8 @@ fn generated<W: Write>(seed: u64, sink: &mut Sink<W>) -> io::Result<()> {
                     continue;
                 }
                 for end in 0..file.len() {
-                    let rooms = rooms(&mut random, draft.size());
-                    if !sink.put("every cut", rooms, &file[..end])? {
+                    let rooms = rooms(&mut random, draft.size(), end);
+                    if !sink.put("every cut", &Group::parsed(&file[..end], rooms))? {
                         return Ok(());
                     }
                 }
@@ -94,8 +76,8 @@ fn generated<W: Write>(seed: u64, sink: &mut Sink<W>) -> io::Result<()> {
             // No draft at all.
             252..=271 => {
                 let file = damage::noise(&mut random);
-                let rooms = rooms(&mut random, (3, 2));
-                if !sink.put("noise", rooms, &file)? {
+                let rooms = rooms(&mut random, (3, 2), file.len());
+                if !sink.put("noise", &Group::parsed(&file, rooms))? {
                     return Ok(());
                 }
             }
@@ -106,8 +88,9 @@ fn generated<W: Write>(seed: u64, sink: &mut Sink<W>) -> io::Result<()> {
                     damage::damage(&mut random, &mut draft);
                     what = "two damages";
                 }
-                let rooms = rooms(&mut random, draft.size());
-                if !sink.put(what, rooms, &draft.bytes())? {
+                let file = draft.bytes();
+                let rooms = rooms(&mut random, draft.size(), file.len());
+                if !sink.put(what, &Group::parsed(&file, rooms))? {
                     return Ok(());
                 }
             }
@@ -129,7 +112,7 @@ fn lookups<W: Write>(seed: u64, sink: &mut Sink<W>) -> io::Result<()> {
     let mut random = Random::new(seed);
     loop {
         let (what, draft) = mostly_valid(&mut random);
-        if !sink.put_kind(LOOKUPS, what, (0, 0), &draft.bytes())? {
+        if !sink.put(what, &questions::lookups(&draft.bytes()))? {
             return Ok(());
         }
     }
@@ -140,12 +123,11 @@ fn transactions<W: Write>(seed: u64, sink: &mut Sink<W>) -> io::Result<()> {
     loop {
         let (what, draft) = mostly_valid(&mut random);
         let file = draft.bytes();
-        let kind = if random.once_in(3) { TX } else { SCRIPTED };
-        let way = if random.once_in(3) { 0 } else { random.below(WAYS.into()) as u32 };
-        // The original keeps a transaction whatever its length: a room is small only where nothing is set behind it.
-        let short = random.once_in(12) && way != SET_LATE;
-        let room = if short { random.below(2 * file.len() as u64) as u32 } else { TX_ROOM as u32 };
-        if !sink.put_kind(kind, what, (way, room), &file)? {
+        let way = if random.once_in(3) { Way::RIGHT } else { Way::numbered(random.below(Way::MANY.into()) as u32) };
+        let way = if random.once_in(3) { None } else { Some(way) };
+        let ample = tx_room(file.len());
+        let room = if random.once_in(12) { random.between(0, ample) } else { ample };
+        if !sink.put(what, &questions::transaction(&file, way, room))? {
             return Ok(());
         }
     }
@@ -154,7 +136,8 @@ fn transactions<W: Write>(seed: u64, sink: &mut Sink<W>) -> io::Result<()> {
 fn main() -> io::Result<()> {
     let arguments: Vec<String> = std::env::args().skip(1).collect();
     let words: Vec<&str> = arguments.iter().map(String::as_str).collect();
-    let mut sink = Sink { to: BufWriter::new(io::stdout().lock()), left: u64::MAX, bytes: 0, made: BTreeMap::new() };
+    let mut sink =
+        Sink { to: BufWriter::new(io::stdout().lock()), left: u64::MAX, calls: 0, bytes: 0, made: BTreeMap::new() };
     match words[..] {
         ["fixed"] => fixed::all(&mut sink)?,
         ["long"] => fixed::long(&mut sink)?,
@@ -185,7 +168,7 @@ fn main() -> io::Result<()> {
     }
     sink.to.flush()?;
     let all: u64 = sink.made.values().sum();
-    eprintln!("{all} records, {} bytes of files", sink.bytes);
+    eprintln!("{all} files, {} calls, {} bytes of files", sink.calls, sink.bytes);
     for (what, number) in &sink.made {
         eprintln!("{number:>9} {what}");
     }

@@ -1,9 +1,27 @@
 //! A module within the original: shows what it keeps private, and calls nothing but it.
 
 use super::*;
-use records::Tables;
+use records::{Answer, Memory};
 
 pub mod lookups;
+pub mod transaction;
+
+/// The word of a value that is absent.
+const ABSENT: u64 = u64::MAX;
+
+/// A pair: key start, key length, value start, value length. A map: first pair, number of pairs.
+#[derive(Default)]
+pub struct Tables {
+    pub pairs: Vec<[usize; 4]>,
+    pub maps: Vec<[usize; 2]>,
+}
+
+impl Tables {
+    pub fn words(&self) -> (Vec<u32>, Vec<u32>) {
+        let words = |entries: Vec<usize>| entries.into_iter().map(|word| word as u32).collect();
+        (words(self.pairs.concat()), words(self.maps.concat()))
+    }
+}
 
 /// A refusal's place in the enum, counted from 1.
 pub fn number(error: PsbtError) -> u32 {
@@ -29,6 +47,33 @@ pub fn tables(psbt: &Psbt) -> Tables {
         tables.pairs.extend(map.pairs.iter().map(|pair| entry(psbt.raw_psbt, pair)));
     }
     tables
+}
+
+/// What is reported of an accepted file.
+pub fn report(psbt: &Psbt, tables: &Tables) -> Answer {
+    Answer::told(
+        0,
+        &[
+            u64::from(psbt.tx_version as u32),
+            psbt.fallback_locktime.map_or(ABSENT, u64::from),
+            psbt.tx_modifiable.map_or(ABSENT, u64::from),
+            psbt.inputs.len() as u64,
+            psbt.outputs.len() as u64,
+            tables.pairs.len() as u64,
+            tables.maps.len() as u64,
+        ],
+    )
+}
+
+/// The original's reading of the file, if memory holds what its own parse leaves there. Other tables it can't be asked about.
+pub fn own<'a>(file: &'a [u8], memory: &Memory) -> Option<Psbt<'a>> {
+    let psbt = Psbt::parse(file).ok()?;
+    let tables = tables(&psbt);
+    let (pairs, maps) = tables.words();
+    let same = memory.pairs.starts_with(&pairs)
+        && memory.maps.starts_with(&maps)
+        && memory.report == report(&psbt, &tables).words;
+    same.then_some(psbt)
 }
 
 /// The entries of the pairs accepted and the maps ended before a refusal, which the original doesn't report. Its own

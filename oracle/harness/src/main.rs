@@ -1,52 +1,53 @@
-//! Answers records by the original. Rooms are ignored: the original allocates.
+//! Answers calls by the original. Rooms are ignored where a file is parsed: the original allocates.
 
 extern crate alloc;
 
 include!(concat!(env!("OUT_DIR"), "/module.rs"));
 
-mod transaction;
-
 use fastpsbt::{inside, Psbt};
-use records::{Fields, Record, Tables, LIMIT};
+use inside::Tables;
+use records::{calls, laid, Answer, Call, Left, Memory, LIMIT};
 
-fn parse(file: &[u8]) -> String {
-    // The original has no limit: this number is the harness's own.
-    if file.len() > LIMIT {
-        return records::parse_line(&Err(21), &Tables::default());
-    }
-    match Psbt::parse(file) {
-        Ok(psbt) => {
-            let fields = Fields {
-                tx_version: psbt.tx_version,
-                fallback: psbt.fallback_locktime,
-                modifiable: psbt.tx_modifiable,
-                inputs: psbt.inputs.len() as u64,
-                outputs: psbt.outputs.len() as u64,
-            };
-            records::parse_line(&Ok(fields), &inside::tables(&psbt))
+/// The whole entries of a parse, whatever the rooms; memory gets them where they fit.
+fn parse(file: &[u8], memory: &mut Memory) -> Answer {
+    let refused =
+        |number: u32, tables: &Tables| Answer::told(number, &[tables.pairs.len() as u64, tables.maps.len() as u64]);
+    let (answer, tables) = if file.len() > LIMIT {
+        // The original has no limit: this number is the harness's own.
+        (refused(21, &Tables::default()), Tables::default())
+    } else {
+        match Psbt::parse(file) {
+            Ok(psbt) => {
+                let tables = inside::tables(&psbt);
+                (inside::report(&psbt, &tables), tables)
+            }
+            Err(error) => {
+                let tables = inside::before_refusal(file);
+                (refused(inside::number(error), &tables), tables)
+            }
         }
-        Err(error) => records::parse_line(&Err(inside::number(error)), &inside::before_refusal(file)),
-    }
+    };
+    let (pairs, maps) = tables.words();
+    answer.leaving(Left::Tables(laid(&mut memory.pairs, &pairs), laid(&mut memory.maps, &maps)))
 }
 
-/// The line of what is asked of an accepted file, or its refusal.
-fn accepted(record: &Record, line: impl FnOnce(Psbt) -> String) -> String {
-    if record.file.len() > LIMIT {
-        return "no 21".to_string();
-    }
-    match Psbt::parse(&record.file) {
-        Ok(psbt) => line(psbt),
-        Err(error) => format!("no {}", inside::number(error)),
-    }
+/// None where the original has no such call, or where memory isn't what its own parse and setter leave.
+fn answer(memory: &mut Memory, call: &Call) -> Option<Answer> {
+    let file = std::mem::take(&mut memory.file);
+    let answer = match call.number {
+        calls::PARSE => Some(parse(&file, memory)),
+        _ if file.len() > LIMIT => None,
+        _ => inside::own(&file, memory).and_then(|psbt| match call.number {
+            calls::SET | calls::SET_TWO | calls::TX | calls::SCRIPT | calls::SCRIPT_PART => {
+                inside::transaction::answer(psbt, memory, call)
+            }
+            _ => inside::lookups::answer(&psbt, memory, call),
+        }),
+    };
+    memory.file = file;
+    answer
 }
 
 fn main() -> std::io::Result<()> {
-    records::run(|record: &Record| match record.kind {
-        records::PARSE => parse(&record.file),
-        records::LOOKUPS => accepted(record, |psbt| inside::lookups::line(&psbt)),
-        records::TX | records::SCRIPTED => accepted(record, |psbt| transaction::line(psbt, record)),
-        // The original has no tables of its own to lend.
-        records::TABLES => "none".to_string(),
-        kind => unreachable!("kind {kind} is known but has no line"),
-    })
+    records::run(answer)
 }

@@ -1,20 +1,21 @@
 //! Lookups over tables that may hold anything: what a map has if it is fit, and what is found in it.
 
-use records::{Fields, Line, MOST_MAPS, MOST_PAIRS, SHOWN};
+use crate::parse::{number, ABSENT};
+use records::{Listing, Looked, Memory, Numbered};
 
 pub const BAD_VALUE: u32 = 7;
 pub const NO_SUCH: u32 = 14;
 pub const UNFIT: u32 = 24;
 
-pub type Looked = Result<Option<(usize, usize)>, u32>;
-pub type Numbered = Result<Option<u64>, u32>;
-
-/// A file with words that are said to be the tables of it, and with fields that are said to be reported of it.
+/// A file with words that are said to be the tables of it, and with numbers that are said to be reported of it.
 pub struct Lent<'a> {
     pub file: &'a [u8],
     pub pairs: &'a [u32],
     pub maps: &'a [u32],
-    pub fields: Fields,
+    pub tx_version: u32,
+    pub fallback: Option<u32>,
+    pub inputs: u64,
+    pub outputs: u64,
 }
 
 /// A pair of a fit map.
@@ -25,11 +26,8 @@ pub struct Entry<'a> {
     pub value: &'a [u8],
 }
 
-impl Entry<'_> {
-    pub fn found(&self) -> (usize, usize) {
-        (self.place[2], self.place[3])
-    }
-}
+/// The pairs of a map, or its refusal.
+pub type Map<'a> = Result<Vec<Entry<'a>>, u32>;
 
 /// What lengths of a value are right.
 #[derive(Clone, Copy)]
@@ -52,13 +50,26 @@ impl Wanted {
 }
 
 impl<'a> Lent<'a> {
+    pub fn of(memory: &'a Memory) -> Self {
+        let fallback = memory.reported(2);
+        Lent {
+            file: &memory.file,
+            pairs: &memory.pairs,
+            maps: &memory.maps,
+            tx_version: memory.reported(1) as u32,
+            fallback: (fallback != ABSENT).then_some(fallback as u32),
+            inputs: memory.reported(4),
+            outputs: memory.reported(5),
+        }
+    }
+
     fn part(&self, start: u32, length: u32) -> Option<&'a [u8]> {
         self.file.get(start as usize..start as usize + length as usize)
     }
 
     /// The pairs of a map, if all is fit.
-    pub fn map(&self, number: u128) -> Result<Vec<Entry<'a>>, u32> {
-        if number >= 1 + u128::from(self.fields.inputs) + u128::from(self.fields.outputs) {
+    pub fn map(&self, number: u128) -> Map<'a> {
+        if number >= 1 + u128::from(self.inputs) + u128::from(self.outputs) {
             return Err(NO_SUCH);
         }
         self.entries(number).ok_or(UNFIT)
@@ -81,27 +92,23 @@ impl<'a> Lent<'a> {
         Some(entries)
     }
 
-    pub fn input(&self, number: u64) -> Result<Vec<Entry<'a>>, u32> {
-        if number >= self.fields.inputs {
+    pub fn input(&self, number: u64) -> Map<'a> {
+        if number >= self.inputs {
             return Err(NO_SUCH);
         }
         self.map(1 + u128::from(number))
     }
 
-    pub fn output(&self, number: u64) -> Result<Vec<Entry<'a>>, u32> {
-        if number >= self.fields.outputs {
+    pub fn output(&self, number: u64) -> Map<'a> {
+        if number >= self.outputs {
             return Err(NO_SUCH);
         }
-        self.map(1 + u128::from(self.fields.inputs) + u128::from(number))
+        self.map(1 + u128::from(self.inputs) + u128::from(number))
     }
 
     /// All reported maps, or the refusal of the first that is unfit.
     pub fn all(&self) -> Result<Vec<Vec<Entry<'a>>>, u32> {
-        let mut maps = Vec::new();
-        for number in 0..1 + u128::from(self.fields.inputs) + u128::from(self.fields.outputs) {
-            maps.push(self.map(number)?);
-        }
-        Ok(maps)
+        (0..1 + u128::from(self.inputs) + u128::from(self.outputs)).map(|number| self.map(number)).collect()
     }
 }
 
@@ -109,18 +116,16 @@ pub fn find<'e, 'a>(map: &'e [Entry<'a>], key_type: u8, data: &[u8]) -> Option<&
     map.iter().find(|entry| entry.key[0] == key_type && &entry.key[1..] == data)
 }
 
-type Map<'a> = Result<Vec<Entry<'a>>, u32>;
-
 pub fn look(map: &Map, key_type: u8, data: &[u8], wanted: Wanted) -> Looked {
     match find(map.as_ref().map_err(|e| *e)?, key_type, data) {
         None => Ok(None),
-        Some(entry) if wanted.fits(entry.value.len()) => Ok(Some(entry.found())),
+        Some(entry) if wanted.fits(entry.value.len()) => Ok(Some((entry.place[2], entry.place[3]))),
         Some(_) => Err(BAD_VALUE),
     }
 }
 
 /// A lookup whose key has to be right, in a map that has to be fit first.
-pub fn keyed(map: &Map, right: bool, key_type: u8, data: &[u8], wanted: Wanted) -> Looked {
+fn keyed(map: &Map, right: bool, key_type: u8, data: &[u8], wanted: Wanted) -> Looked {
     map.as_ref().map_err(|e| *e)?;
     if right {
         look(map, key_type, data, wanted)
@@ -132,10 +137,10 @@ pub fn keyed(map: &Map, right: bool, key_type: u8, data: &[u8], wanted: Wanted) 
 pub fn numbered(map: &Map, key_type: u8, width: usize) -> Numbered {
     look(map, key_type, &[], Exactly(width))?;
     let entry = find(map.as_ref().unwrap(), key_type, &[]);
-    Ok(entry.map(|entry| crate::number(entry.value)))
+    Ok(entry.map(|entry| number(entry.value)))
 }
 
-pub fn list(map: &Map, key_type: u8) -> Result<(usize, usize), u32> {
+pub fn list(map: &Map, key_type: u8) -> Listing {
     let map = map.as_ref().map_err(|e| *e)?;
     let below = map.iter().filter(|entry| entry.key[0] < key_type).count();
     Ok((below, map.iter().filter(|entry| entry.key[0] == key_type).count()))
@@ -146,156 +151,46 @@ pub fn nth<'a>(map: &Map<'a>, n: u64) -> Result<Entry<'a>, u32> {
     usize::try_from(n).ok().and_then(|n| map.get(n).copied()).ok_or(NO_SUCH)
 }
 
-fn leaf_fits(length: usize) -> bool {
-    length == 0 || length == 32
+/// By a scan key of 33 bytes.
+pub fn scanned(map: &Map, key_type: u8, scan: &[u8], width: usize) -> Looked {
+    keyed(map, scan.len() == 33, key_type, scan, Exactly(width))
 }
 
-/// Participant and aggregate of 33 bytes, and perhaps a leaf hash.
-pub fn signer(map: &Map, key_type: u8, data: &[u8]) -> Looked {
-    let right = data.len() >= 66 && leaf_fits(data.len() - 66);
-    keyed(map, right, key_type, data, Exactly(if key_type == 0x1b { 66 } else { 32 }))
+fn leaf_fits(leaf: &[u8]) -> bool {
+    leaf.is_empty() || leaf.len() == 32
 }
 
-pub fn input_members(map: &Map, data: &[u8]) -> Looked {
-    keyed(map, data.len() >= 33 && leaf_fits(data.len() - 33), 0x1a, data, Keys)
+/// By participant and aggregate of 33 bytes, and perhaps a leaf hash.
+pub fn signer(map: &Map, key_type: u8, participant: &[u8], aggregate: &[u8], leaf: &[u8], width: usize) -> Looked {
+    let right = participant.len() == 33 && aggregate.len() == 33 && leaf_fits(leaf);
+    keyed(map, right, key_type, &[participant, aggregate, leaf].concat(), Exactly(width))
 }
 
-pub fn output_members(map: &Map, data: &[u8]) -> Looked {
-    keyed(map, data.len() == 33, 0x08, data, Keys)
+/// A list of participants by an aggregate of 33 bytes, and perhaps a leaf hash.
+pub fn participants(map: &Map, key_type: u8, aggregate: &[u8], leaf: &[u8]) -> Looked {
+    let right = aggregate.len() == 33 && leaf_fits(leaf);
+    keyed(map, right, key_type, &[aggregate, leaf].concat(), Keys)
 }
 
-pub fn member(list: Looked, n: u64) -> Looked {
-    match list {
-        Ok(Some((start, length))) if n < (length / 33) as u64 => Ok(Some((start + 33 * n as usize, 33))),
-        Ok(Some(_)) => Err(NO_SUCH),
-        other => other,
+pub fn participant_count(list: Looked) -> Numbered {
+    Ok(list?.map(|(_, length)| (length / 33) as u64))
+}
+
+pub fn participant(list: Looked, n: u64) -> Looked {
+    match list? {
+        None => Ok(None),
+        Some((start, length)) if n < (length / 33) as u64 => Ok(Some((start + 33 * n as usize, 33))),
+        Some(_) => Err(NO_SUCH),
     }
 }
 
-/// The list, how many are in it, and the first two.
-pub fn put_members(line: &mut Line, list: Looked) {
-    line.looked(list);
-    line.numbered(list.map(|found| found.map(|(_, length)| (length / 33) as u64)));
-    line.looked(member(list, 0));
-    line.looked(member(list, 1));
-}
-
-fn put_keyed(line: &mut Line, lent: &Lent, number: u128, map: &Map, key_type: u8, data: &[u8]) {
-    let inputs = u128::from(lent.fields.inputs);
-    let scan = data.len() == 33;
-    if number == 0 && (key_type == 0x07 || key_type == 0x08) {
-        line.looked(keyed(map, scan, 0x07, data, Exactly(33)));
-        line.looked(keyed(map, scan, 0x08, data, Exactly(64)));
-    } else if number > 0 && number <= inputs && (0x1a..=0x1e).contains(&key_type) {
-        line.looked(keyed(map, scan, 0x1d, data, Exactly(33)));
-        line.looked(keyed(map, scan, 0x1e, data, Exactly(64)));
-        line.looked(signer(map, 0x1b, data));
-        line.looked(signer(map, 0x1c, data));
-        put_members(line, input_members(map, data));
-    } else if number > inputs && key_type == 0x08 {
-        put_members(line, output_members(map, data));
+/// A witness UTXO: 8 bytes of amount, one of length up to fc, exactly so many of script. Its amount, and where its script stands.
+pub fn utxo(map: &Map) -> Result<Vec<u64>, u32> {
+    let Some((start, length)) = look(map, 0x01, &[], Any)? else { return Ok(vec![]) };
+    let value = find(map.as_ref().unwrap(), 0x01, &[]).unwrap().value;
+    if length >= 9 && value[8] <= 0xfc && length == 9 + usize::from(value[8]) {
+        Ok(vec![number(&value[..8]), start as u64 + 9, length as u64 - 9])
+    } else {
+        Err(BAD_VALUE)
     }
-}
-
-fn shown(bytes: &[u8]) -> &[u8] {
-    &bytes[..bytes.len().min(SHOWN)]
-}
-
-fn put_pair(line: &mut Line, lent: &Lent, number: u128, map: &Map, entry: &Entry) {
-    let [key, key_length, value, value_length] = entry.place;
-    let (key_type, data) = (entry.key[0], &entry.key[1..]);
-    line.place(key, key_length);
-    line.place(value, value_length);
-    line.hex(shown(entry.value));
-    line.looked(look(map, key_type, data, Any));
-    line.hex(shown(entry.value));
-    let longer = &lent.file[key + 1..lent.file.len().min(key + 1 + key_length)];
-    line.looked(look(map, key_type, longer, Any));
-    line.looked(look(map, key_type, &data[..data.len().max(1) - 1], Any));
-    line.listing(list(map, key_type));
-    line.listing(list(map, if key_type == 255 { 0 } else { key_type + 1 }));
-    put_keyed(line, lent, number, map, key_type, data);
-    line.mark(",");
-}
-
-/// A witness UTXO: 8 bytes of amount, one of length up to fc, exactly so many of script.
-pub fn put_utxo(line: &mut Line, map: &Map) {
-    let mut script: &[u8] = &[];
-    match look(map, 0x01, &[], Any) {
-        Err(number) => line.refusal(number),
-        Ok(None) => line.word("-"),
-        Ok(Some((start, length))) => {
-            let value = find(map.as_ref().unwrap(), 0x01, &[]).unwrap().value;
-            if length >= 9 && value[8] <= 0xfc && length == 9 + usize::from(value[8]) {
-                line.word(crate::number(&value[..8]));
-                line.place(start + 9, length - 9);
-                script = &value[9..];
-            } else {
-                line.refusal(BAD_VALUE);
-            }
-        }
-    }
-    line.hex(script);
-}
-
-pub fn put_input(line: &mut Line, map: &Map) {
-    for (key_type, wanted) in [
-        (0x00, Any),
-        (0x01, Any),
-        (0x04, Any),
-        (0x05, Any),
-        (0x07, Any),
-        (0x08, Any),
-        (0x0e, Exactly(32)),
-        (0x20, Exactly(32)),
-    ] {
-        line.looked(look(map, key_type, &[], wanted));
-    }
-    for key_type in [0x03, 0x0f, 0x10, 0x11, 0x12] {
-        line.numbered(numbered(map, key_type, 4));
-    }
-    for key_type in [0x06, 0x1d, 0x1e, 0x1f] {
-        line.listing(list(map, key_type));
-    }
-    put_utxo(line, map);
-}
-
-pub fn put_output(line: &mut Line, map: &Map) {
-    line.looked(look(map, 0x00, &[], Any));
-    line.looked(look(map, 0x01, &[], Any));
-    line.numbered(numbered(map, 0x03, 8));
-    line.looked(look(map, 0x04, &[], Any));
-    line.looked(look(map, 0x09, &[], Exactly(66)));
-    line.numbered(numbered(map, 0x0a, 4));
-    line.listing(list(map, 0x02));
-}
-
-pub fn line(lent: &Lent) -> String {
-    let mut line = Line::begun("ok");
-    let inputs = u128::from(lent.fields.inputs);
-    for number in 0..MOST_MAPS as u128 {
-        let map = lent.map(number);
-        if let Err(refusal) = map {
-            line.refusal(refusal);
-            break;
-        }
-        line.word("|");
-        if number == 0 {
-            line.listing(list(&map, 0x07));
-            line.listing(list(&map, 0x08));
-        } else if number <= inputs {
-            put_input(&mut line, &map);
-        } else {
-            put_output(&mut line, &map);
-        }
-        line.word(":");
-        let entries = map.as_ref().unwrap();
-        for entry in entries.iter().take(MOST_PAIRS) {
-            put_pair(&mut line, lent, number, &map, entry);
-        }
-        if entries.len() < MOST_PAIRS {
-            line.refusal(NO_SUCH);
-        }
-    }
-    line.0
 }

@@ -1,278 +1,168 @@
-//! A model of the reader with rooms, written from the rules of the format (`docs/DEFINITIONS.md` has them in words) and, where
-//! these leave room, from the readings in `docs/DECISIONS.md`. No line of it comes from the original or from the Rattle code. It
-//! answers the same records with the same lines, and it says what the original can't: 22, 23 and what small rooms leave.
+//! A model of the calls, written from the rules of the format (`docs/DEFINITIONS.md` has them in words) and, where these leave
+//! room, from the readings in `docs/DECISIONS.md`. No line of it comes from the original or from the Rattle code. It answers the
+//! same records with the same lines, and it says what the original can't: 22, 23, 24 and what small rooms leave.
 //!
 //! It is a model, a third opinion. Nothing is proved about it.
 
 mod lookups;
-mod tables;
+mod parse;
 mod transaction;
 
-use lookups::Lent;
-use records::{Fields, Record, Tables, LIMIT, MAPS, PAIRS};
+use lookups::{Lent, Wanted};
+use records::calls::*;
+use records::{Answer, Call, Looked, Memory};
+use Told::{List, Number, Part};
+use Wanted::{Any, Exactly};
 
-const EOF: u32 = 2;
-const LEFT_OVER_IN_COUNT: u32 = 3;
-const DUPLICATE: u32 = 5;
-const UNSORTED: u32 = 6;
-const BAD_VALUE: u32 = 7;
-const MISSING_COUNTS: u32 = 8;
-const NOT_ALLOWED: u32 = 13;
-const MISSING_SCRIPT: u32 = 17;
-const SILENT_PAYMENT: u32 = 18;
-
-#[derive(Clone, Copy, PartialEq)]
-enum Kind {
-    Global,
-    Input,
-    Output,
-}
-use Kind::*;
-
-/// What a value's length has to be.
+/// What a field answers: its place, its number of so many bytes, or where the pairs of its type stand.
 #[derive(Clone, Copy)]
-enum Size {
-    Exactly(usize),
-    /// At least 4, a multiple of 4.
-    Fours,
+enum Told {
+    Part(Wanted),
+    Number(usize),
+    List,
 }
-use Size::*;
 
-/// Checked whatever the key data: map, type, key data length, value length.
-const SIZED: [(Kind, u8, usize, Size); 8] = [
-    (Global, 0x07, 33, Exactly(33)),
-    (Global, 0x08, 33, Exactly(64)),
-    (Input, 0x1d, 33, Exactly(33)),
-    (Input, 0x1e, 33, Exactly(64)),
-    (Input, 0x20, 0, Exactly(32)),
-    (Input, 0x1f, 33, Fours),
-    (Output, 0x09, 0, Exactly(66)),
-    (Output, 0x0a, 0, Exactly(4)),
+/// Fields of the global map that no number is asked with, of inputs and of outputs: call, key type, answer.
+const GLOBAL_FIELDS: [(u8, u8, Told); 2] = [(GLOBAL_SHARES, 0x07, List), (GLOBAL_PROOFS, 0x08, List)];
+const INPUT_FIELDS: [(u8, u8, Told); 17] = [
+    (IN_NON_WITNESS_UTXO, 0x00, Part(Any)),
+    (IN_WITNESS_UTXO, 0x01, Part(Any)),
+    (IN_SIGHASH_TYPE, 0x03, Number(4)),
+    (IN_REDEEM_SCRIPT, 0x04, Part(Any)),
+    (IN_WITNESS_SCRIPT, 0x05, Part(Any)),
+    (IN_FINAL_SCRIPTSIG, 0x07, Part(Any)),
+    (IN_FINAL_SCRIPTWITNESS, 0x08, Part(Any)),
+    (IN_PREVIOUS_TXID, 0x0e, Part(Exactly(32))),
+    (IN_OUTPUT_INDEX, 0x0f, Number(4)),
+    (IN_SEQUENCE, 0x10, Number(4)),
+    (IN_REQUIRED_TIME, 0x11, Number(4)),
+    (IN_REQUIRED_HEIGHT, 0x12, Number(4)),
+    (IN_SP_TWEAK, 0x20, Part(Exactly(32))),
+    (IN_DERIVATIONS, 0x06, List),
+    (IN_SHARES, 0x1d, List),
+    (IN_PROOFS, 0x1e, List),
+    (IN_SPEND_DERIVATIONS, 0x1f, List),
+];
+const OUTPUT_FIELDS: [(u8, u8, Told); 7] = [
+    (OUT_REDEEM_SCRIPT, 0x00, Part(Any)),
+    (OUT_WITNESS_SCRIPT, 0x01, Part(Any)),
+    (OUT_AMOUNT, 0x03, Number(8)),
+    (OUT_SCRIPT, 0x04, Part(Any)),
+    (OUT_SP_INFO, 0x09, Part(Exactly(66))),
+    (OUT_SP_LABEL, 0x0a, Number(4)),
+    (OUT_DERIVATIONS, 0x02, List),
 ];
 
-/// Checked only with empty key data: map, type, value length.
-const SIZED_ALONE: [(Kind, u8, usize); 11] = [
-    (Global, 0x02, 4),
-    (Global, 0x03, 4),
-    (Global, 0xfb, 4),
-    (Input, 0x03, 4),
-    (Input, 0x0f, 4),
-    (Input, 0x10, 4),
-    (Input, 0x11, 4),
-    (Input, 0x12, 4),
-    (Global, 0x06, 1),
-    (Input, 0x0e, 32),
-    (Output, 0x03, 8),
-];
-
-/// A number from its bytes, the least first.
-fn number(bytes: &[u8]) -> u64 {
-    bytes.iter().rev().fold(0, |n, b| n * 256 + u64::from(*b))
+/// The answer of a field, if the call is one of these.
+fn field(fields: &[(u8, u8, Told)], call: u8, map: &lookups::Map) -> Option<Answer> {
+    let (_, key_type, told) = fields.iter().find(|(number, _, _)| *number == call)?;
+    Some(match told {
+        Part(wanted) => Answer::looked(lookups::look(map, *key_type, &[], *wanted)),
+        Number(width) => Answer::numbered(lookups::numbered(map, *key_type, *width)),
+        List => Answer::listing(lookups::list(map, *key_type)),
+    })
 }
 
-/// How many bytes follow the first byte of a compact size.
-fn more(first: u8) -> usize {
-    match first {
-        0xfd => 2,
-        0xfe => 4,
-        0xff => 8,
-        _ => 0,
-    }
+/// The bytes that stand at a place.
+fn part_of(bytes: &[u8], looked: Looked) -> &[u8] {
+    looked.ok().flatten().map_or(&[], |(start, length)| &bytes[start..start + length])
 }
 
-/// The compact size at `at`, and where it ends; none if the bytes run out.
-fn size(file: &[u8], at: usize) -> Option<(u64, usize)> {
-    let first = *file.get(at)?;
-    match more(first) {
-        0 => Some((u64::from(first), at + 1)),
-        n => file.get(at + 1..at + 1 + n).map(|bytes| (number(bytes), at + 1 + n)),
+fn answer(memory: &mut Memory, call: &Call) -> Answer {
+    match call.number {
+        PARSE => parse::parse(memory),
+        SET => transaction::set(memory, &memory.list.clone()),
+        SET_TWO => transaction::set(memory, &memory.two_assignments()),
+        TX => transaction::unsigned(memory),
+        LOCK => transaction::lock(&Lent::of(memory)).told(),
+        SCRIPT | SCRIPT_PART => script(memory, call),
+        GLOBAL_SHARE..=GLOBAL_PROOFS => global(memory, call),
+        IN_NON_WITNESS_UTXO..=IN_UTXO | IN_UTXO_SCRIPT => input(memory, call),
+        OUT_REDEEM_SCRIPT..=OUT_PARTICIPANT => output(memory, call),
+        _ => general(memory, call),
     }
 }
 
-/// Where a part of the stated length that begins at `at` ends; none if the file has no such part.
-fn end_of(file: &[u8], at: usize, length: u64) -> Option<usize> {
-    (u128::from(length) <= (file.len() - at) as u128).then(|| at + length as usize)
-}
-
-/// A count field's value. Its first byte counts as read even where the rest of the size is missing.
-fn count(value: &[u8]) -> Result<u64, u32> {
-    let Some((first, rest)) = value.split_first() else { return Err(EOF) };
-    let wanted = more(*first);
-    if rest.len() == wanted {
-        Ok(if wanted == 0 { u64::from(*first) } else { number(rest) })
-    } else if rest.is_empty() {
-        Err(EOF)
-    } else {
-        Err(LEFT_OVER_IN_COUNT)
+/// Calls that ask a map by its number among all.
+fn general(memory: &Memory, call: &Call) -> Answer {
+    let a = call.arguments;
+    let map = Lent::of(memory).map(u128::from(a[0]));
+    let get = || lookups::look(&map, a[1] as u8, memory.part(a[2], a[3]), Any);
+    let nth = || lookups::nth(&map, a[1]);
+    match call.number {
+        GET => Answer::looked(get()),
+        GET_PART => Answer::part(part_of(&memory.file, get())),
+        LISTED => Answer::listing(lookups::list(&map, a[1] as u8)),
+        NTH => Answer::values(nth().map(|entry| entry.place.map(|word| word as u64).to_vec())),
+        NTH_KEY => Answer::part(nth().map_or(&[], |entry| entry.key)),
+        NTH_VALUE => Answer::part(nth().map_or(&[], |entry| entry.value)),
+        number => unreachable!("call {number} is known but has no answer"),
     }
 }
 
-/// The refusal that a pair's field rule gives, if any.
-fn field_rule(kind: Kind, key: &[u8], value: &[u8]) -> Result<(), u32> {
-    let (key_type, data) = (key[0], &key[1..]);
-    for (k, t, data_length, size) in SIZED {
-        if (k, t) == (kind, key_type) {
-            let fits = match size {
-                Exactly(n) => value.len() == n,
-                Fours => value.len() >= 4 && value.len() % 4 == 0,
-            };
-            if data.len() != data_length || !fits {
-                return Err(BAD_VALUE);
-            }
-        }
-    }
-    if !data.is_empty() {
-        return Ok(());
-    }
-    for (k, t, length) in SIZED_ALONE {
-        if (k, t) == (kind, key_type) && value.len() != length {
-            return Err(BAD_VALUE);
-        }
-    }
-    match (kind, key_type) {
-        (Global, 0x00) => Err(NOT_ALLOWED),
-        (Global, 0x04 | 0x05) => count(value).map(|_| ()),
-        _ => Ok(()),
-    }
+fn global(memory: &Memory, call: &Call) -> Answer {
+    let a = call.arguments;
+    let map = Lent::of(memory).map(0);
+    let scan = memory.part(a[0], a[1]);
+    field(&GLOBAL_FIELDS, call.number, &map).unwrap_or_else(|| {
+        Answer::looked(match call.number {
+            GLOBAL_SHARE => lookups::scanned(&map, 0x07, scan, 33),
+            _ => lookups::scanned(&map, 0x08, scan, 64),
+        })
+    })
 }
 
-struct Reading<'a> {
-    file: &'a [u8],
-    at: usize,
-    pair_room: usize,
-    map_room: usize,
-    tables: Tables,
+fn input(memory: &Memory, call: &Call) -> Answer {
+    let a = call.arguments;
+    let map = Lent::of(memory).input(a[0]);
+    let part = |i: usize| memory.part(a[i], a[i + 1]);
+    let participants = || lookups::participants(&map, 0x1a, part(1), part(3));
+    field(&INPUT_FIELDS, call.number, &map).unwrap_or_else(|| match call.number {
+        IN_KEYS => Answer::listing(lookups::list(&map, a[1] as u8)),
+        IN_SHARE => Answer::looked(lookups::scanned(&map, 0x1d, part(1), 33)),
+        IN_PROOF => Answer::looked(lookups::scanned(&map, 0x1e, part(1), 64)),
+        IN_NONCE => Answer::looked(lookups::signer(&map, 0x1b, part(1), part(3), part(5), 66)),
+        IN_SIGNATURE => Answer::looked(lookups::signer(&map, 0x1c, part(1), part(3), part(5), 32)),
+        IN_PARTICIPANTS => Answer::looked(participants()),
+        IN_PARTICIPANT_COUNT => Answer::numbered(lookups::participant_count(participants())),
+        IN_PARTICIPANT => Answer::looked(lookups::participant(participants(), a[5])),
+        IN_UTXO => Answer::values(lookups::utxo(&map)),
+        _ => Answer::part(match lookups::utxo(&map).as_deref() {
+            Ok([_, start, length]) => &memory.file[*start as usize..][..*length as usize],
+            _ => &[],
+        }),
+    })
 }
 
-impl<'a> Reading<'a> {
-    fn key(&self, pair: usize) -> &'a [u8] {
-        let [start, length, _, _] = self.tables.pairs[pair];
-        &self.file[start..start + length]
-    }
-
-    /// The value of a key in a map that has ended.
-    fn find(&self, map: usize, key: &[u8]) -> Option<&'a [u8]> {
-        let [first, number] = self.tables.maps[map];
-        let pair = (first..first + number).find(|pair| self.key(*pair) == key)?;
-        let [_, _, start, length] = self.tables.pairs[pair];
-        Some(&self.file[start..start + length])
-    }
-
-    fn map(&mut self, kind: Kind) -> Result<(), u32> {
-        if self.tables.maps.len() == self.map_room {
-            return Err(23);
-        }
-        let first = self.tables.pairs.len();
-        loop {
-            let (key_length, key) = size(self.file, self.at).ok_or(EOF)?;
-            if key_length == 0 {
-                self.at = key;
-                self.tables.maps.push([first, self.tables.pairs.len() - first]);
-                return Ok(());
-            }
-            let key_end = end_of(self.file, key, key_length).ok_or(EOF)?;
-            let key_bytes = &self.file[key..key_end];
-            if self.tables.pairs.len() > first {
-                let last = self.key(self.tables.pairs.len() - 1);
-                if key_bytes < last {
-                    return Err(UNSORTED);
-                }
-                if key_bytes == last {
-                    return Err(DUPLICATE);
-                }
-            }
-            let (value_length, value) = size(self.file, key_end).ok_or(EOF)?;
-            let value_end = end_of(self.file, value, value_length).ok_or(EOF)?;
-            field_rule(kind, key_bytes, &self.file[value..value_end])?;
-            if self.tables.pairs.len() == self.pair_room {
-                return Err(22);
-            }
-            self.tables.pairs.push([key, key_end - key, value, value_end - value]);
-            self.at = value_end;
-        }
-    }
-
-    fn file(&mut self) -> Result<Fields, u32> {
-        if self.file.len() > LIMIT {
-            return Err(21);
-        }
-        if !self.file.starts_with(&[0x70, 0x73, 0x62, 0x74, 0xff]) {
-            return Err(1);
-        }
-        self.at = 5;
-        self.map(Global)?;
-        let global = |key: u8| self.find(0, &[key]);
-        let (Some(tx), Some(inputs), Some(outputs), Some(version)) =
-            (global(0x02), global(0x04), global(0x05), global(0xfb))
-        else {
-            return Err(MISSING_COUNTS);
-        };
-        if number(version) != 2 {
-            return Err(NOT_ALLOWED);
-        }
-        let fields = Fields {
-            tx_version: number(tx) as u32 as i32,
-            fallback: global(0x03).map(|v| number(v) as u32),
-            modifiable: global(0x06).map(|v| v[0]),
-            inputs: count(inputs)?,
-            outputs: count(outputs)?,
-        };
-        for _ in 0..fields.inputs {
-            self.map(Input)?;
-        }
-        for _ in 0..fields.outputs {
-            self.map(Output)?;
-        }
-        if self.at < self.file.len() {
-            return Err(EOF);
-        }
-        let modifiable = fields.modifiable.unwrap_or(0) % 4 != 0;
-        for output in 1 + fields.inputs as usize..self.tables.maps.len() {
-            let script = self.find(output, &[0x04]).is_some();
-            let code = self.find(output, &[0x09]).is_some();
-            let label = self.find(output, &[0x0a]).is_some();
-            if !script && !code {
-                return Err(MISSING_SCRIPT);
-            }
-            if script && code && modifiable || label && !code {
-                return Err(SILENT_PAYMENT);
-            }
-        }
-        Ok(fields)
-    }
+fn output(memory: &Memory, call: &Call) -> Answer {
+    let a = call.arguments;
+    let map = Lent::of(memory).output(a[0]);
+    let participants = || lookups::participants(&map, 0x08, memory.part(a[1], a[2]), &[]);
+    field(&OUTPUT_FIELDS, call.number, &map).unwrap_or_else(|| match call.number {
+        OUT_KEYS => Answer::listing(lookups::list(&map, a[1] as u8)),
+        OUT_PARTICIPANTS => Answer::looked(participants()),
+        OUT_PARTICIPANT_COUNT => Answer::numbered(lookups::participant_count(participants())),
+        _ => Answer::looked(lookups::participant(participants(), a[3])),
+    })
 }
 
-fn read(file: &[u8], pair_room: usize, map_room: usize) -> (Result<Fields, u32>, Tables) {
-    let mut reading = Reading { file, at: 0, pair_room, map_room, tables: Tables::default() };
-    let outcome = reading.file();
-    (outcome, reading.tables)
-}
-
-fn parse(record: &Record) -> String {
-    let (outcome, tables) =
-        read(&record.file, (record.pair_room as usize).min(PAIRS), (record.map_room as usize).min(MAPS));
-    records::parse_line(&outcome, &tables)
-}
-
-/// The line of what is asked of an accepted file, or its refusal.
-fn accepted(record: &Record, line: impl FnOnce(&Lent) -> String) -> String {
-    let (outcome, tables) = read(&record.file, PAIRS, MAPS);
-    match outcome {
-        Err(refusal) => format!("no {refusal}"),
-        Ok(fields) => {
-            let pairs: Vec<u32> = tables.pairs.iter().flatten().map(|word| *word as u32).collect();
-            let maps: Vec<u32> = tables.maps.iter().flatten().map(|word| *word as u32).collect();
-            line(&Lent { file: &record.file, pairs: &pairs, maps: &maps, fields })
-        }
+/// The script of an output and where it stands: 04 in the file, else the one set in the script table.
+fn script(memory: &Memory, call: &Call) -> Answer {
+    let number = call.arguments[0];
+    let output = Lent::of(memory).output(number);
+    let place = output.and_then(|output| transaction::script_place(memory, &output, number));
+    if call.number == SCRIPT {
+        return Answer::values(place.map(|found| {
+            found.map_or(vec![], |(table, start, length)| vec![u64::from(table), start as u64, length as u64])
+        }));
     }
+    Answer::part(match place {
+        Ok(Some((false, start, length))) => &memory.file[start..start + length],
+        Ok(Some((true, start, length))) => &memory.scripts[start..start + length],
+        _ => &[],
+    })
 }
 
 fn main() -> std::io::Result<()> {
-    records::run(|record: &Record| match record.kind {
-        records::PARSE => parse(record),
-        records::LOOKUPS => accepted(record, lookups::line),
-        records::TX | records::SCRIPTED => accepted(record, |lent| transaction::line(lent, record)),
-        records::TABLES => tables::line(record),
-        kind => unreachable!("kind {kind} is known but has no line"),
-    })
+    records::run(|memory, call| Some(answer(memory, call)))
 }

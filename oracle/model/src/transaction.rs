@@ -1,7 +1,8 @@
 //! The lock, the setter and the unsigned transaction, over tables that may hold anything.
 
 use crate::lookups::{find, Entry, Lent, BAD_VALUE, UNFIT};
-use records::{Line, Record, SCRIPTED, SET_LATE, SET_TWICE, TX_ROOM, WAYS};
+use crate::parse::number;
+use records::{laid, Answer, Left, Memory};
 
 const MISSING_SCRIPT: u32 = 17;
 const WRONG_SCRIPTS: u32 = 19;
@@ -9,13 +10,6 @@ const NO_ROOM: u32 = 25;
 
 /// Where heights end and times begin.
 const TIMES: u32 = 500_000_000;
-
-/// How far a signing job is.
-#[derive(Clone, Copy, Default)]
-pub struct State {
-    pub set: bool,
-    pub written: bool,
-}
 
 /// What decided the lock, with inputs by their numbers, or the rule that refused.
 pub enum Lock {
@@ -29,11 +23,26 @@ pub enum Lock {
     Fallback(u32),
 }
 
+impl Lock {
+    pub fn told(&self) -> Answer {
+        match *self {
+            Lock::Unfit(refusal) => Answer::told(refusal, &[]),
+            Lock::Fallback(n) => Answer::told(0, &[0, n.into()]),
+            Lock::Height(n, input) => Answer::told(0, &[1, n.into(), input as u64]),
+            Lock::Time(n, input) => Answer::told(0, &[2, n.into(), input as u64]),
+            Lock::BothKinds(height, time) => Answer::told(BAD_VALUE, &[1, height as u64, time as u64]),
+            Lock::TooGreat(n, input) => Answer::told(BAD_VALUE, &[2, n.into(), input as u64]),
+            Lock::TooSmall(n, input) => Answer::told(BAD_VALUE, &[3, n.into(), input as u64]),
+            Lock::Malformed(input) => Answer::told(BAD_VALUE, &[4, input as u64]),
+        }
+    }
+}
+
 /// A number of four bytes; none if absent, an error if it has another length.
 fn word(map: &[Entry], key_type: u8) -> Result<Option<u32>, ()> {
     match find(map, key_type, &[]) {
         None => Ok(None),
-        Some(entry) if entry.value.len() == 4 => Ok(Some(crate::number(entry.value) as u32)),
+        Some(entry) if entry.value.len() == 4 => Ok(Some(number(entry.value) as u32)),
         Some(_) => Err(()),
     }
 }
@@ -71,17 +80,17 @@ fn lock_of(inputs: &[Vec<Entry>], fallback: Option<u32>) -> Lock {
 }
 
 fn inputs_of<'e, 'a>(lent: &Lent, maps: &'e [Vec<Entry<'a>>]) -> &'e [Vec<Entry<'a>>] {
-    &maps[1..1 + lent.fields.inputs as usize]
+    &maps[1..1 + lent.inputs as usize]
 }
 
 fn outputs_of<'e, 'a>(lent: &Lent, maps: &'e [Vec<Entry<'a>>]) -> &'e [Vec<Entry<'a>>] {
-    &maps[1 + lent.fields.inputs as usize..]
+    &maps[1 + lent.inputs as usize..]
 }
 
 pub fn lock(lent: &Lent) -> Lock {
     match lent.all() {
         Err(refusal) => Lock::Unfit(refusal),
-        Ok(maps) => lock_of(inputs_of(lent, &maps), lent.fields.fallback),
+        Ok(maps) => lock_of(inputs_of(lent, &maps), lent.fallback),
     }
 }
 
@@ -114,20 +123,22 @@ fn sized<'a>(map: &[Entry<'a>], key_type: u8, width: usize) -> Result<&'a [u8], 
     }
 }
 
-pub fn unsigned(lent: &Lent, state: State, scripts: &[u8], room: usize) -> Result<Vec<u8>, u32> {
+/// The transaction's bytes.
+fn bytes(memory: &Memory) -> Result<Vec<u8>, u32> {
+    let lent = &Lent::of(memory);
     let maps = lent.all()?;
+    let (set, _) = memory.state();
     let (inputs, outputs) = (inputs_of(lent, &maps), outputs_of(lent, &maps));
-    let entries: Vec<&[u8]> = scripts.chunks_exact(35).collect();
-    if state.set
-        && (entries.len() < outputs.len() || !outputs.iter().zip(&entries).all(|(output, e)| entry_fits(e, output)))
+    let entries: Vec<&[u8]> = memory.scripts.chunks_exact(35).collect();
+    if set && (entries.len() < outputs.len() || !outputs.iter().zip(&entries).all(|(output, e)| entry_fits(e, output)))
     {
         return Err(UNFIT);
     }
-    let lock = match lock_of(inputs, lent.fields.fallback) {
+    let lock = match lock_of(inputs, lent.fallback) {
         Lock::Height(number, _) | Lock::Time(number, _) | Lock::Fallback(number) => number,
         _ => return Err(BAD_VALUE),
     };
-    let mut to = lent.fields.tx_version.to_le_bytes().to_vec();
+    let mut to = lent.tx_version.to_le_bytes().to_vec();
     put_size(&mut to, inputs.len());
     for input in inputs {
         to.extend(sized(input, 0x0e, 32)?);
@@ -143,30 +154,57 @@ pub fn unsigned(lent: &Lent, state: State, scripts: &[u8], room: usize) -> Resul
         to.extend(sized(output, 0x03, 8)?);
         let script = match find(output, 0x04, &[]) {
             Some(entry) => entry.value,
-            None if state.set => &entries[number][1..],
+            None if set => &entries[number][1..],
             None => return Err(MISSING_SCRIPT),
         };
         put_size(&mut to, script.len());
         to.extend(script);
     }
     to.extend(lock.to_le_bytes());
-    if to.len() > room {
+    if to.len() > memory.out.len() {
         return Err(NO_ROOM);
     }
     Ok(to)
 }
 
-/// The state behind an accepted setting; the table is filled.
-pub fn set(lent: &Lent, state: State, list: &[u64], buffer: &[u8], table: &mut [u8]) -> Result<State, u32> {
+/// Writes the transaction, if the buffer has the room.
+pub fn unsigned(memory: &mut Memory) -> Answer {
+    let (set, _) = memory.state();
+    match bytes(memory) {
+        Err(refusal) => Answer::told(refusal, &[]).leaving(Left::Bytes(memory.out.clone())),
+        Ok(bytes) => {
+            Answer::told(0, &[bytes.len() as u64, set.into(), 1]).leaving(Left::Bytes(laid(&mut memory.out, &bytes)))
+        }
+    }
+}
+
+/// Where the script of an output stands, in the file or (then true) in the script table.
+pub fn script_place(memory: &Memory, output: &[Entry], number: u64) -> Result<Option<(bool, usize, usize)>, u32> {
+    let (set, _) = memory.state();
+    let start = usize::try_from(number).ok().and_then(|n| n.checked_mul(35));
+    let entry = start.and_then(|start| memory.scripts.get(start..start.checked_add(35)?));
+    if set && !entry.is_some_and(|entry| entry_fits(entry, output)) {
+        return Err(UNFIT);
+    }
+    Ok(match find(output, 0x04, &[]) {
+        Some(entry) => Some((false, entry.place[2], entry.place[3])),
+        None if set => start.map(|start| (true, start + 1, 34)),
+        None => None,
+    })
+}
+
+/// The entries that the setter writes, one for each output.
+fn entries(memory: &Memory, list: &[u64]) -> Result<Vec<[u8; 35]>, u32> {
+    let lent = &Lent::of(memory);
     let maps = lent.all()?;
     let outputs = outputs_of(lent, &maps);
-    if state.set || state.written || list.len() % 3 != 0 {
+    if memory.state() != (false, false) || list.len() % 3 != 0 {
         return Err(WRONG_SCRIPTS);
     }
     let mut scripts: Vec<Option<&[u8]>> = vec![None; outputs.len()];
     for record in list.chunks_exact(3) {
         let [output, start, length] = [record[0], record[1], record[2]].map(|n| usize::try_from(n).unwrap());
-        let script = start.checked_add(length).and_then(|end| buffer.get(start..end));
+        let script = start.checked_add(length).and_then(|end| memory.buffer.get(start..end));
         let Some(script) = script.filter(|script| is_taproot(script)) else { return Err(WRONG_SCRIPTS) };
         if output >= outputs.len() || find(&outputs[output], 0x04, &[]).is_some() || scripts[output].is_some() {
             return Err(WRONG_SCRIPTS);
@@ -176,59 +214,25 @@ pub fn set(lent: &Lent, state: State, list: &[u64], buffer: &[u8], table: &mut [
     if outputs.iter().zip(&scripts).any(|(output, script)| find(output, 0x04, &[]).is_none() && script.is_none()) {
         return Err(WRONG_SCRIPTS);
     }
-    if table.len() / 35 < outputs.len() {
+    if memory.scripts.len() / 35 < outputs.len() {
         return Err(NO_ROOM);
     }
-    for (entry, script) in table.chunks_exact_mut(35).zip(&scripts) {
-        entry.fill(0);
+    let entry = |script: Option<&[u8]>| {
+        let mut entry = [0; 35];
         if let Some(script) = script {
             entry[0] = 1;
             entry[1..].copy_from_slice(script);
         }
-    }
-    Ok(State { set: !outputs.is_empty(), ..state })
+        entry
+    };
+    Ok(scripts.into_iter().map(entry).collect())
 }
 
-pub fn put_tx(line: &mut Line, lent: &Lent, state: &mut State, scripts: &[u8], room: usize) {
-    match unsigned(lent, *state, scripts, room) {
-        Ok(bytes) => {
-            state.written = true;
-            line.hex(&bytes);
-        }
-        Err(refusal) => line.refusal(refusal),
+/// Sets scripts; with no outputs nothing counts as set.
+pub fn set(memory: &mut Memory, list: &[u64]) -> Answer {
+    match entries(memory, list) {
+        Err(refusal) => Answer::told(refusal, &[]).leaving(Left::Bytes(memory.scripts.clone())),
+        Ok(entries) => Answer::told(0, &[u64::from(!entries.is_empty()), 0])
+            .leaving(Left::Bytes(laid(&mut memory.scripts, &entries.concat()))),
     }
-}
-
-pub fn put_set(line: &mut Line, lent: &Lent, state: &mut State, list: &[u64], buffer: &[u8], table: &mut [u8]) {
-    match set(lent, *state, list, buffer, table) {
-        Ok(after) => {
-            *state = after;
-            line.word("set");
-        }
-        Err(refusal) => line.refusal(refusal),
-    }
-}
-
-/// The transaction of an accepted file, perhaps with scripts set.
-pub fn line(lent: &Lent, record: &Record) -> String {
-    let mut line = Line::begun("ok");
-    let room = TX_ROOM.min(record.map_room as usize);
-    let mut state = State::default();
-    let mut table = vec![0; 35 * 512];
-    if record.kind == SCRIPTED {
-        let way = record.pair_room % WAYS;
-        let unscripted: Vec<u64> = (0..lent.fields.outputs)
-            .filter(|i| lent.output(*i).is_ok_and(|output| find(&output, 0x04, &[]).is_none()))
-            .collect();
-        let (list, buffer) = records::assignments(way, lent.fields.outputs, &unscripted);
-        if way == SET_LATE {
-            put_tx(&mut line, lent, &mut state, &table, room);
-        }
-        put_set(&mut line, lent, &mut state, &list, &buffer, &mut table);
-        if way == SET_TWICE {
-            put_set(&mut line, lent, &mut state, &list, &buffer, &mut table);
-        }
-    }
-    put_tx(&mut line, lent, &mut state, &table, room);
-    line.0
 }
