@@ -8,7 +8,7 @@ use Rattle.format.specs.declared.PsbtError.the-variants.{InvalidMagic, Unexpect
 use Rattle.text.specs.Spots.{Spot, lay}
 use Rattle.text.specs.Spelled.{decimal}
 use Rattle.text.proofs.Chains.{chain5}
-use Rattle.reasons.specs.Lines.{front, rest, behind, line}
+use Rattle.reasons.specs.Rows.{front, rest, behind, line}
 use Rattle.reasons.specs.Reasons.{newline, sayRefused, sayThat, meanings, meaning, refusedLine}
 
 -- text that a case decides, by the text of that case

@@ -4,7 +4,7 @@ use text::put;
 use text::put_decimal;
 ghost use mathlib.Core.Path.{_≡_};
 ghost use Rattle.text.specs.Spots.{spot, lay};
-ghost use Rattle.reasons.specs.Lines.{Begins, Ends, line};
+ghost use Rattle.reasons.specs.Rows.{Begins, Ends, line};
 ghost use Rattle.reasons.specs.Reasons.{meaning, refusedLine};
 
 // A line for each refusal, by its number; line 0 is empty.

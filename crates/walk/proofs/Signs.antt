@@ -1,6 +1,6 @@
 -- A number of 32 bits read as a signed one: below the middle itself, above it counted down from the top.
 use mathlib.Core.Path.{_≡_, refl, sym, _∙_, ap, subst}
-use Prim.Native.Nat.{ℕ, suc, _+_, _-_, _≤_, _<_}
+use Prim.Native.Nat.{ℕ, suc, _-_, _≤_, _<_}
 use native.Mathlib.Omega.{arith}
 use borrow.Author.Tests.{lt-ltb, le-ltb}
 use lib.IntN.{ℤ, negsuc, _+ℤ_}

@@ -1,6 +1,6 @@
 -- `reasons::line` meets its contract.
 use borrow.Author.Needs.{needs}
-use Rattle.reasons.proofs.Lines.{lines}
+use Rattle.reasons.proofs.Rows.{lines}
 use Rattle.reasons.proofs.line.Statement.{statement}
 use Rattle.reasons.proofs.line.Tie as tie
 use Rattle.reasons.proofs.line.Reads as reads

@@ -2,7 +2,7 @@
 use Prim.Native.Nat.{_-_}
 use borrow.Author.Needs.{needs}
 use lib.ListN.{length}
-use Rattle.reasons.proofs.Lines.{Along, ends}
+use Rattle.reasons.proofs.Rows.{Along, ends}
 use Rattle.reasons.proofs.line_len.Statement.{statement}
 use Rattle.reasons.proofs.line_len.Tie as tie
 use Rattle.reasons.proofs.line_len.Reads as reads

@@ -2,7 +2,7 @@
 use Prim.Native.Nat.{_-_}
 use borrow.Author.Needs.{needs}
 use lib.ListN.{length}
-use Rattle.reasons.proofs.Lines.{Passing, starts}
+use Rattle.reasons.proofs.Rows.{Passing, starts}
 use Rattle.reasons.proofs.line_start.Statement.{statement}
 use Rattle.reasons.proofs.line_start.Tie as tie
 use Rattle.reasons.proofs.line_start.Reads as reads

@@ -7,7 +7,7 @@ use native.Mathlib.Numerals.{add-one}
 use borrow.Author.Tests.{eq-eqb, ne-eqb}
 use lib.ListN.{length, take, drop, getD, length-drop, drop-of-length-le}
 use lib.Seq.{length-take-le, take-all, take-suc, drop-cons, append-snoc}
-use Rattle.reasons.specs.Lines.{front, rest, behind, line, Begins, Ends}
+use Rattle.reasons.specs.Rows.{front, rest, behind, line, Begins, Ends}
 
 -- so many lines are left to pass from byte i on
 pub record Passing (s : List ℕ) (n i left : ℕ) : Type 0 where
