@@ -26,7 +26,8 @@ pub takes-not : {A : Type 0} (e : PsbtError) (w : ℕ) → Refused e ≡ Takes w
 takes-not e w h = let z : _≡_ {A = ℕ} 0 1 = cc in absurd (omega arith)
 
 -- by the first output's measure
-pub more-takes : {R : Type 0} (f : ℕ → Measure) (n k : ℕ) (o : Measure) → moreBy f n o ≡ Takes k → ((w : ℕ) → o ≡ Takes w → f (capped (n + w)) ≡ Takes k → R) → R
+pub more-takes : {R : Type 0} (f : ℕ → Measure) (n k : ℕ) (o : Measure) → moreBy f n o ≡ Takes k
+    → ((w : ℕ) → o ≡ Takes w → f (capped (n + w)) ≡ Takes k → R) → R
 unfolding moreBy
 more-takes f n k (Refused e) h g = takes-not e k h
 more-takes f n k (Takes w) h g = g w refl h
