@@ -111,11 +111,12 @@ pub ruleset caps = (cap-past, cap-sum)
 
 -- all but the outputs
 module _ (n m a b : ℕ) (ea : a ≡ sizeLength n) (eb : b ≡ sizeLength m) where
-  pub fixed-fits : Fits w64 (8 + a)
-  fixed-fits = record { fits = omega (arith, size-most n) }
+  module _ (k : ℕ) (few : leb k 8 ≡ true) where
+    pub fixed-fits : Fits w64 (k + a)
+    fixed-fits = record { fits = omega (arith, size-most n, leb-true k 8 few) }
 
-  pub fixed-both : Fits w64 (8 + a + b)
-  fixed-both = record { fits = omega (arith, size-most n, size-most m) }
+    pub fixed-both : Fits w64 (k + a + b)
+    fixed-both = record { fits = omega (arith, size-most n, size-most m, leb-true k 8 few) }
 
   pub fixed-past : greatest / inputLength < n → greatest ≡ capped (fixedLength n m)
   unfolding fixedLength
