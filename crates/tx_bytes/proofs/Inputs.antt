@@ -116,7 +116,8 @@ module _ (f P M : List ℕ) (s : Psbt) (B₀ : List ℕ) (at : ℕ) (B : List �
         record {
           room = omega (arith, k .room, ap length q ∙ length-input B to (inIn f P m));
           long = ap length q ∙ length-input B to (inIn f P m) ∙ k .long;
-          is = ap (λ (b : List ℕ). putInputs b (to + inputLength) (from (inAt f P M) (i + 1) (s .inputs - (i + 1)))) (q ∙ ap (putInput B to) (sym (in-at f P M i m e)))
+          is = ap (λ (b : List ℕ). putInputs b (to + inputLength) (from (inAt f P M) (i + 1) (s .inputs - (i + 1))))
+              (q ∙ ap (putInput B to) (sym (in-at f P M i m e)))
               ∙ sym (ap (putInputs B to) (rest-one (inAt f P M) i (s .inputs) h)) ∙ k .is;
         }
 

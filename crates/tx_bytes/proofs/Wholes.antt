@@ -1,8 +1,11 @@
 -- Laws of writing the whole: version, counts and lock time around inputs and outputs, and the room that each has.
 use mathlib.Core.Path.{_≡_, _∙_, ap}
+use mathlib.Core.Bool.{true}
 use mathlib.Core.List.{List, [], _∷_}
 use Prim.Native.Nat.{ℕ, _+_, _*_, _≤_}
 use native.Mathlib.Omega.{arith}
+use borrow.Author.Tests.{leb-true}
+use lib.Dec.{leb}
 use lib.ListN.{length}
 use mir.Syntax.{w32}
 use mir.Val.{SFits, toZ, ofZ}
@@ -62,10 +65,10 @@ front-is f P M s B B₁ e₁ B₂ e₂ a to ea et r B₃ q = q ∙ rw (e₂, e�
 -- count, outputs and lock time
 module _ (f P M : List ℕ) (s : Psbt) (t : State) (T : List ℕ) (at : ℕ) (B B₁ : List ℕ) (e₁ : B₁ ≡ wrote B at (shortest (s .outputs))) (b to : ℕ) (eb : b ≡ sizeLength (s .outputs))
     (et : to ≡ at + b) (d : ℕ) (B₂ : List ℕ) (e₂ : put d B₂ ≡ putOutputs B₁ to (outsNow f P M s t T)) where
-  pub rest-lock : RestRoom f P M s t T at (length B) → d + 4 ≤ length B₂
-  rest-lock k =
+  pub rest-lock : RestRoom f P M s t T at (length B) → (k : ℕ) → leb k 4 ≡ true → d + k ≤ length B₂
+  rest-lock r k few =
       let p = outs-place (outsNow f P M s t T) B₁ to d B₂ e₂ in
-      omega (arith, k .room, wrote-long B B₁ at (shortest (s .outputs)) e₁, p .0, p .1)
+      omega (arith, r .room, wrote-long B B₁ at (shortest (s .outputs)) e₁, p .0, p .1, leb-true k 4 few)
 
   pub rest-is : (n : ℕ) (B₃ : List ℕ) → B₃ ≡ wrote B₂ d (bytesOf 4 n) → B₃ ≡ putRest (outsNow f P M s t T) n (put at B)
   unfolding putRest putLock

@@ -26,7 +26,8 @@ pub takes-not : {A : Type 0} (e : PsbtError) (w : ℕ) → Refused e ≡ Takes w
 takes-not e w h = let z : _≡_ {A = ℕ} 0 1 = cc in absurd (omega arith)
 
 -- by the first output's measure
-pub more-takes : {R : Type 0} (f : ℕ → Measure) (n k : ℕ) (o : Measure) → moreBy f n o ≡ Takes k → ((w : ℕ) → o ≡ Takes w → f (capped (n + w)) ≡ Takes k → R) → R
+pub more-takes : {R : Type 0} (f : ℕ → Measure) (n k : ℕ) (o : Measure) → moreBy f n o ≡ Takes k
+    → ((w : ℕ) → o ≡ Takes w → f (capped (n + w)) ≡ Takes k → R) → R
 unfolding moreBy
 more-takes f n k (Refused e) h g = takes-not e k h
 more-takes f n k (Takes w) h g = g w refl h
@@ -110,11 +111,12 @@ pub ruleset caps = (cap-past, cap-sum)
 
 -- all but the outputs
 module _ (n m a b : ℕ) (ea : a ≡ sizeLength n) (eb : b ≡ sizeLength m) where
-  pub fixed-fits : Fits w64 (8 + a)
-  fixed-fits = record { fits = omega (arith, size-most n) }
+  module _ (k : ℕ) (few : leb k 8 ≡ true) where
+    pub fixed-fits : Fits w64 (k + a)
+    fixed-fits = record { fits = omega (arith, size-most n, leb-true k 8 few) }
 
-  pub fixed-both : Fits w64 (8 + a + b)
-  fixed-both = record { fits = omega (arith, size-most n, size-most m) }
+    pub fixed-both : Fits w64 (k + a + b)
+    fixed-both = record { fits = omega (arith, size-most n, size-most m, leb-true k 8 few) }
 
   pub fixed-past : greatest / inputLength < n → greatest ≡ capped (fixedLength n m)
   unfolding fixedLength

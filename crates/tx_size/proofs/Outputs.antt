@@ -45,7 +45,8 @@ there-in w f S.Misfit = refl
 there-in w f (S.At s) = refl
 
 -- an output's measure
-module _ (f P : List ℕ) (m : MapEntry) (e : List ℕ) (x : SizedAt) (ex : sizedIn 8 f x ≡ sizedTo 8 (field 0x03 (pairsIn f P m))) (a : Bool) (ea : a ≡ thereAt x) where
+module _ (f P : List ℕ) (m : MapEntry) (e : List ℕ) (x : SizedAt) (ex : sizedIn 8 f x ≡ sizedTo 8 (field 0x03 (pairsIn f P m)))
+    (a : Bool) (ea : a ≡ thereAt x) where
   amount-is : (scripted (outIn f P m) e) .amount ≡ sizedIn 8 f x
   unfolding scripted outIn outOf
   amount-is = sym ex
@@ -103,8 +104,8 @@ pub rest-all : {A : Type 0} (g : ℕ → A) (n : ℕ) → from g 0 (n - 0) ≡ f
 rest-all g n = let q : n - 0 ≡ n = omega arith in rw q
 
 -- the output of its map's entry, with its script by now
-pub out-at : (f P M : List ℕ) (s : Psbt) (t : State) (T : List ℕ) (i : ℕ) (m : MapEntry) (e : List ℕ) → m ≡ mapAt M (1 + s .inputs + i) → e ≡ entryAt (setSoFar t T) i
-    → outNow f P M s t T i ≡ scripted (outIn f P m) e
+pub out-at : (f P M : List ℕ) (s : Psbt) (t : State) (T : List ℕ) (i : ℕ) (m : MapEntry) (e : List ℕ)
+    → m ≡ mapAt M (1 + s .inputs + i) → e ≡ entryAt (setSoFar t T) i → outNow f P M s t T i ≡ scripted (outIn f P m) e
 unfolding outNow outAt outIn pairsOf
 out-at f P M s t T i m e p q = ap₂ (λ (x : MapEntry) (y : List ℕ). scripted (outIn f P x) y) (sym p) (sym q)
 
@@ -150,6 +151,7 @@ module _ (f P M : List ℕ) (s : Psbt) (t : State) (T : List ℕ) (first i total
 pub ruleset measures = (measure-first, measure-done, measure-stop, measure-more)
 
 -- the whole
-pub tx-measured : (s : Psbt) (outs : List Out) (n : ℕ) → n ≡ capped (fixedLength (s .inputs) (s .outputs)) → (r : Measure) → r ≡ outsMeasure outs n → r ≡ txMeasure s outs
+pub tx-measured : (s : Psbt) (outs : List Out) (n : ℕ) → n ≡ capped (fixedLength (s .inputs) (s .outputs))
+    → (r : Measure) → r ≡ outsMeasure outs n → r ≡ txMeasure s outs
 unfolding txMeasure
 tx-measured s outs n e r q = q ∙ ap (outsMeasure outs) e

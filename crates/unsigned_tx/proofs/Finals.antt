@@ -49,14 +49,16 @@ scripted-from : (g : ℕ → Out) (T : List ℕ) (i n : ℕ) → from (λ j. scr
 unfolding from allScripted entryAt
 scripted-from g T i zero = refl
 scripted-from g T i (suc n) =
-    ap (λ (l : List Out). scripted (g i) (take scriptEntry (drop (i * scriptEntry) T)) ∷ l) (scripted-from g T (i + 1) n ∙ ap (allScripted (from g (i + 1) n)) (sym (next-entry T i)))
+    ap (λ (l : List Out). scripted (g i) (take scriptEntry (drop (i * scriptEntry) T)) ∷ l)
+    (scripted-from g T (i + 1) n ∙ ap (allScripted (from g (i + 1) n)) (sym (next-entry T i)))
 
 scripted-now : (f P M : List ℕ) (s : Psbt) (t : State) (T : List ℕ) → outsNow f P M s t T ≡ allScripted (outsOf f P M s) (setSoFar t T)
 unfolding outsNow outNow outsOf
 scripted-now f P M s t T = scripted-from (outAt f P M s) (setSoFar t T) 0 (s .outputs)
 
 -- the call, where each input has what it needs: r is the measure
-module _ (f P M : List ℕ) (s : Psbt) (t : State) (T : List ℕ) (n : ℕ) (B : List ℕ) (k : AllOk f P M s) (r : Measure) (q : r ≡ txMeasure s (outsNow f P M s t T)) where
+module _ (f P M : List ℕ) (s : Psbt) (t : State) (T : List ℕ) (n : ℕ) (B : List ℕ) (k : AllOk f P M s)
+    (r : Measure) (q : r ≡ txMeasure s (outsNow f P M s t T)) where
   whole : Tx
   whole = txWith s (insOf f P M s) (outsOf f P M s) (setSoFar t T) n
 
@@ -70,7 +72,8 @@ module _ (f P M : List ℕ) (s : Psbt) (t : State) (T : List ℕ) (n : ℕ) (B :
 
   pub locked-refused : (e : PsbtError) → r ≡ Refused e → txOut (U.Refused e) B ≡ written t B (txWith s (insOf f P M s) (outsOf f P M s) (setSoFar t T) n)
   unfolding written
-  locked-refused e h = sym (ap (written t B) (tx-bad-output s (insOf f P M s) (outsOf f P M s) (setSoFar t T) n (k .ok) (capped around) e (measured (Refused e) h)))
+  locked-refused e h =
+      sym (ap (written t B) (tx-bad-output s (insOf f P M s) (outsOf f P M s) (setSoFar t T) n (k .ok) (capped around) e (measured (Refused e) h)))
 
   module _ (c : ℕ) (h : r ≡ Takes c) where
     bytes : List ℕ

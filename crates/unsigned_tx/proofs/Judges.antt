@@ -27,7 +27,9 @@ use Rattle.unsigned_tx.specs.Surveys.{isFound}
 
 -- the entry behind entry number i
 pub next-entry : (T : List ℕ) (i : ℕ) → drop scriptEntry (drop (i * scriptEntry) T) ≡ drop ((i + 1) * scriptEntry) T
-next-entry T i = let q : i * scriptEntry + scriptEntry ≡ (i + 1) * scriptEntry = omega arith in drop-drop scriptEntry (i * scriptEntry) T ∙ ap (λ (k : ℕ). drop k T) q
+next-entry T i =
+    let q : i * scriptEntry + scriptEntry ≡ (i + 1) * scriptEntry = omega arith in
+    drop-drop scriptEntry (i * scriptEntry) T ∙ ap (λ (k : ℕ). drop k T) q
 
 -- a script that was found is present
 pub found-by : (x y : FoundAt) (b : Bool) → x ≡ y → b ≡ isFound y → b ≡ isFound x

@@ -1,4 +1,4 @@
--- The definition's transaction, by its parts: where nothing is missing its bytes are those of the parts, and else the first part that misses something refuses it.
+-- The definition's transaction, by its parts: their bytes where nothing is missing, and else the refusal of the first part that misses something.
 use mathlib.Core.Path.{_≡_, refl, sym, _∙_, ap}
 use mathlib.Core.Bool.{Bool, true, false, _&&_}
 use mathlib.Core.List.{List, [], _∷_, _++_, append-assoc}
@@ -114,7 +114,8 @@ unfolding moreBy
 more-refused f n e (Refused x) h a b = a h
 more-refused f n e (Takes w) h a b = b w refl h
 
-outs-ok : (os : List Out) (T : List ℕ) (t : Tx) (n k : ℕ) → outsMeasure (allScripted os T) n ≡ Takes k → outputsThen os T t ≡ ahead (outsBytes (allScripted os T)) t
+outs-ok : (os : List Out) (T : List ℕ) (t : Tx) (n k : ℕ) → outsMeasure (allScripted os T) n ≡ Takes k
+    → outputsThen os T t ≡ ahead (outsBytes (allScripted os T)) t
 unfolding outputsThen outputThen allScripted scripted outsMeasure outMeasure outsBytes out-both
 outs-ok [] T t n k h = sym (ahead-nothing t)
 outs-ok (o ∷ os) T t n k h =

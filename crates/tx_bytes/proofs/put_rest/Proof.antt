@@ -4,6 +4,7 @@ use Rattle.tx_bytes.proofs.Wholes.{rest-lock, rest-is}
 use Rattle.tx_bytes.proofs.put_rest.Statement.{statement}
 use Rattle.tx_bytes.proofs.put_rest.Tie as tie
 
+-- the facts that it takes lie far apart: w is where the count was written
 put-le-requires : tie.Need-put-le-requires
 put-le-requires c κs =
     let w = c .before .before .before .before .before .before .before in
@@ -15,26 +16,15 @@ put-le-requires c κs =
       w .before .before .before .before .before .before .before .before .pre,
     )
 
-returns : tie.Need-returns
-returns c =
-    let w = c .before .before .before .before .before .before in
-    search (
-      rest-is,
-      c .before .before .put-le .ensures,
-      w .put-outputs .ensures,
-      w .before .before .before .before .put-size .ensures,
-      w .before .before .before .before .before .before .size-len .ensures,
-    )
-
--- needs: needs
+-- needs: needs, rest-is
 pub put-rest-spec : {M : Type 1} → statement M
 put-rest-spec =
     tie.close
     (tie.spec
-    (λ c κs. search (needs))
-    (λ c. search (needs))
-    (λ c κs. search (needs))
-    (λ c κs. search (needs))
+    (λ c κs. search (needs, rest-is))
+    (λ c. search (needs, rest-is))
+    (λ c κs. search (needs, rest-is))
+    (λ c κs. search (needs, rest-is))
     put-le-requires
-    (λ c. search (needs))
-    returns)
+    (λ c. search (needs, rest-is))
+    (λ c. search (needs, rest-is)))
