@@ -1,4 +1,4 @@
-// Which maps of lent tables, which may hold anything, are fit to be asked, and the parts of the file that their entries name.
+// Whether a map of lent tables is fit to be asked, whatever they hold, and the parts of the file that its entries name.
 use format::MapEntry;
 use format::Order;
 use format::PairEntry;

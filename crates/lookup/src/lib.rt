@@ -1,4 +1,4 @@
-// Lookups and listings in a map whose pairs are all fit.
+// Lookups and listings in a map of lent tables, which may hold anything.
 use fitness::Fit;
 use fitness::bytes_at;
 use fitness::fit_map;
@@ -79,6 +79,7 @@ pub fn find_place(file: &[u8], pairs: &[u32], m: MapEntry, key_type: u8, key_dat
     Looked::Absent
 }
 
+// A length is a right one.
 fn length_fits(wanted: Wanted, n: usize) -> bool
     ensures { λ r. ⌜ r ≡ lengthFits (lengthOf wanted) n ⌝ }
 {
@@ -196,6 +197,7 @@ pub fn number_at(file: &[u8], looked: Looked) -> Numbered
     }
 }
 
+// One where a test holds.
 fn one_if(b: bool) -> usize
     ensures { λ r. ⌜ r ≡ oneIf b ⌝ }
 {
@@ -243,6 +245,7 @@ fn list_entries(file: &[u8], pairs: &[u32], m: MapEntry, key_type: u8) -> Listin
     Listing::Pairs { first, count }
 }
 
+// The listing of a type in a map.
 pub fn list_in(file: &[u8], pairs: &[u32], fit: Fit, key_type: u8) -> Listing
     requires { ⌜ Within (now pairs) fit ⌝ }
     ensures { λ r. ⌜ r ≡ list (now (file .entry)) «key_type» (heldOf (now (pairs .entry)) fit) ⌝ }
