@@ -88,6 +88,9 @@ fn read_record(body: &mut [u8]) -> Record {
         return nothing(CUT);
     }
     let length = word(&head, 5);
+    if CALLS < head[0] {
+        return nothing(CUT);
+    }
     if body.len() < length {
         return nothing(CUT);
     }
