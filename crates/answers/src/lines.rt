@@ -34,7 +34,7 @@ fn put_words(out: &mut [u8], at: usize, words: &[u64]) -> usize {
 }
 
 // A call's number, the number that it answered, and its words.
-pub fn put_answer(out: &mut [u8], at: usize, call: u8, number: u64, words: &[u64]) -> usize {
+pub fn put_answer(out: &mut [u8], at: usize, call: u8, number: u64, words: &[u64; 8]) -> usize {
     let to = put_decimal(out, at, call as u64);
     let to = put_word(out, to, number);
     put_words(out, to, words)

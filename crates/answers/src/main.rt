@@ -1,12 +1,15 @@
 // Reads records from standard input until it ends. A record lends memory or asks calls, and each call is answered by a line
 // on standard output.
-ghost use Prim.Native.Nat.{_≤_};
-use crate::calls::Call;
-use crate::calls::ask;
+use crate::calls::ask_map;
 use crate::calls::behind;
+use crate::calls::cells;
 use crate::calls::front;
+use crate::calls::parse;
 use crate::calls::part_asked;
 use crate::calls::read_call;
+use crate::calls::script_asked;
+use crate::calls::set;
+use crate::calls::write_tx;
 use crate::lines::put_answer;
 use crate::lines::put_bytes;
 use crate::lines::put_part;
@@ -21,7 +24,7 @@ mod calls;
 mod lines;
 mod memory;
 
-// The kinds of records that lend no memory: calls, the input's end, and a record that is cut.
+// The kind of a record whose body is calls; behind it, what stands for the input's end and for a record that is cut.
 const CALLS: u8 = 9;
 
 const OVER: u8 = 10;
@@ -35,21 +38,13 @@ struct Record {
     length: usize,
 }
 
-// Where the lines end, where the next call and the last one of the body at hand stand, and whether the run goes on.
+// Where the lines end, where the next call of the body at hand begins and where they all end, and how the run ended: it goes
+// on, or it is over or cut.
 struct Stand {
     at: usize,
     next: usize,
     end: usize,
-    going: bool,
-}
-
-fn cut(lines: &mut [u8], at: usize) -> Stand {
-    Stand {
-        at: put(lines, at, b"cut\n"),
-        next: 0,
-        end: 0,
-        going: false,
-    }
+    how: u8,
 }
 
 fn nothing(kind: u8) -> Record {
@@ -87,11 +82,33 @@ fn read_record(body: &mut [u8]) -> Record {
     if got < 9 {
         return nothing(CUT);
     }
+    if CALLS < head[0] {
+        return nothing(CUT);
+    }
     let length = word(&head, 5);
     if body.len() < length {
         return nothing(CUT);
     }
     read_body(head[0], word(&head, 1), &mut body[0..length])
+}
+
+// Notes how many cells a memory has. A file takes all other memory back.
+fn take_back(
+    kind: u8,
+    room: usize,
+    rooms: &mut [usize; 9],
+    report: &mut [u64; 8],
+    state: &mut [u64; 2],
+) {
+    let k = kind as usize;
+    if k == 0 {
+        *rooms = [0; 9];
+        *report = [0; 8];
+        *state = [0; 2];
+    }
+    if k < 9 {
+        rooms[k] = room;
+    }
 }
 
 // Lends memory of its kind, where the body fits it.
@@ -105,9 +122,9 @@ fn lend(
     report: &mut [u64; 8],
     list: &mut [u64; 1542],
     buffer: &mut [u8; 131072],
+    state: &mut [u64; 2],
     scripts: &mut [u8; 17920],
     out: &mut [u8; 65536],
-    state: &mut [u64; 2],
 ) -> bool {
     match kind {
         0 => lend_bytes(file, room, body),
@@ -123,31 +140,59 @@ fn lend(
     }
 }
 
-// The same and how many cells each memory has then. A file takes all other memory back.
-fn lend_room(
-    record: Record,
-    body: &[u8],
+// What follows a record: its calls, or the next record, where `lent` says that its memory is lent.
+fn after(at: usize, record: Record, lent: bool) -> Stand {
+    let kind = record.kind;
+    if kind == CALLS {
+        return Stand {
+            at,
+            next: 0,
+            end: record.length,
+            how: 0,
+        };
+    }
+    if CALLS < kind {
+        return Stand {
+            at,
+            next: 0,
+            end: 0,
+            how: kind,
+        };
+    }
+    if lent {
+        return Stand {
+            at,
+            next: 0,
+            end: 0,
+            how: 0,
+        };
+    }
+    Stand {
+        at,
+        next: 0,
+        end: 0,
+        how: CUT,
+    }
+}
+
+// Reads a record, and lends the memory that it has.
+fn next_record(
+    at: usize,
     rooms: &mut [usize; 9],
+    body: &mut [u8; 1048577],
     file: &mut [u8; 1048577],
     pairs: &mut [u32; 32768],
     maps: &mut [u32; 4096],
     report: &mut [u64; 8],
     list: &mut [u64; 1542],
     buffer: &mut [u8; 131072],
+    state: &mut [u64; 2],
     scripts: &mut [u8; 17920],
     out: &mut [u8; 65536],
-    state: &mut [u64; 2],
-) -> bool {
-    let k = record.kind as usize;
-    if k == 0 {
-        *rooms = [0; 9];
-        *report = [0; 8];
-        *state = [0; 2];
-    }
-    if k < 9 {
-        rooms[k] = record.room;
-    }
-    lend(
+) -> Stand {
+    let record = read_record(body);
+    take_back(record.kind, record.room, rooms, report, state);
+    let lent = lend(
         record.kind,
         record.room,
         front(body, record.length),
@@ -157,195 +202,270 @@ fn lend_room(
         report,
         list,
         buffer,
-        scripts,
-        out,
-        state,
-    )
-}
-
-// Keeps what an accepted call reports for the calls behind it.
-fn keep(call: u8, number: u64, answer: &[u64; 8], report: &mut [u64; 8], state: &mut [u64; 2]) {
-    if number != 0 {
-        return;
-    }
-    match call {
-        0 => {
-            *report = *answer;
-        }
-        2 | 54 => {
-            *state = [answer[1], answer[2]];
-        }
-        3 => {
-            *state = [answer[2], answer[3]];
-        }
-        _ => {}
-    }
-}
-
-// The memory that a call may write, or the part that it hands back.
-fn put_memory<'a>(
-    call: Call,
-    file: &'a [u8],
-    pairs: &[u32],
-    maps: &[u32],
-    report: &[u64; 8],
-    buffer: &[u8],
-    state: [u64; 2],
-    scripts: &'a [u8],
-    out: &[u8],
-    lines: &mut [u8],
-    at: usize,
-) -> usize {
-    let number = call.number;
-    let args = call.args;
-    match number {
-        0 => {
-            let to = put_table(lines, at, pairs);
-            put_table(lines, to, maps)
-        }
-        2 | 54 => put_bytes(lines, at, scripts),
-        3 => put_bytes(lines, at, out),
-        49..=53 => put_part(
-            lines,
-            at,
-            part_asked(
-                number,
-                file,
-                pairs,
-                maps,
-                report,
-                buffer,
-                state,
-                scripts,
-                args,
-            ),
-        ),
-        _ => at,
-    }
-}
-
-// The line of a call that was asked.
-fn put_line<'a>(
-    call: Call,
-    answer: u64,
-    words: &[u64; 8],
-    file: &'a [u8],
-    pairs: &[u32],
-    maps: &[u32],
-    report: &[u64; 8],
-    buffer: &[u8],
-    state: [u64; 2],
-    scripts: &'a [u8],
-    out: &[u8],
-    lines: &mut [u8],
-    at: usize,
-) -> usize {
-    let to = put_answer(lines, at, call.number, answer, words);
-    let to = put_memory(
-        call,
-        file,
-        pairs,
-        maps,
-        report,
-        buffer,
         state,
         scripts,
         out,
-        lines,
-        to,
     );
-    put(lines, to, b"\n")
+    after(at, record, lent)
 }
 
-// Asks a call and puts its line.
-fn answer(
-    call: Call,
+// The line of a parse. An accepted one leaves its report for the calls behind it.
+fn answer_parse(
+    rooms: &[usize; 9],
     file: &[u8],
-    pairs: &mut [u32],
-    maps: &mut [u32],
+    pairs: &mut [u32; 32768],
+    maps: &mut [u32; 4096],
     report: &mut [u64; 8],
-    list: &[u64],
-    buffer: &[u8],
-    state: &mut [u64; 2],
-    scripts: &mut [u8],
-    out: &mut [u8],
-    lines: &mut [u8],
+    lines: &mut [u8; 524288],
     at: usize,
 ) -> usize {
     let mut words = [0u64; 8];
-    let n = call.number;
-    let args = call.args;
-    let number = ask(
-        n,
+    let number = parse(file, pairs, rooms[1], maps, rooms[2], &mut words);
+    if number == 0 {
+        *report = words;
+    }
+    let to = put_answer(lines, at, 0, number, &words);
+    let to = put_table(lines, to, cells(pairs, rooms[1]));
+    put_table(lines, to, cells(maps, rooms[2]))
+}
+
+// The line of either setter. An accepted one leaves its state.
+fn answer_set(
+    call: u8,
+    rooms: &[usize; 9],
+    file: &[u8],
+    pairs: &[u32],
+    maps: &[u32],
+    report: &[u64; 8],
+    list: &[u64],
+    buffer: &[u8],
+    state: &mut [u64; 2],
+    scripts: &mut [u8; 17920],
+    lines: &mut [u8; 524288],
+    at: usize,
+) -> usize {
+    let mut words = [0u64; 8];
+    let number = set(
+        call,
         file,
         pairs,
         maps,
         report,
         list,
+        rooms[4],
         buffer,
-        *state,
+        state,
         scripts,
-        out,
-        args,
+        rooms[6],
         &mut words,
     );
-    keep(n, number, &words, report, state);
-    put_line(
-        call,
-        number,
-        &words,
+    if number == 0 {
+        *state = [words[1], words[2]];
+    }
+    let to = put_answer(lines, at, call, number, &words);
+    put_bytes(lines, to, front(scripts, rooms[6]))
+}
+
+// The line of a transaction, likewise.
+fn answer_tx(
+    room: usize,
+    file: &[u8],
+    pairs: &[u32],
+    maps: &[u32],
+    report: &[u64; 8],
+    state: &mut [u64; 2],
+    scripts: &[u8],
+    out: &mut [u8; 65536],
+    lines: &mut [u8; 524288],
+    at: usize,
+) -> usize {
+    let mut words = [0u64; 8];
+    let number = write_tx(
         file,
         pairs,
         maps,
         report,
-        buffer,
-        *state,
+        state,
         scripts,
         out,
+        room,
+        &mut words,
+    );
+    if number == 0 {
+        *state = [words[2], words[3]];
+    }
+    let to = put_answer(lines, at, 3, number, &words);
+    put_bytes(lines, to, front(out, room))
+}
+
+// The line of a call that hands back a part.
+fn answer_part<'a>(
+    call: u8,
+    args: &[u64; 8],
+    file: &'a [u8],
+    pairs: &[u32],
+    maps: &[u32],
+    report: &[u64; 8],
+    buffer: &[u8],
+    state: &[u64; 2],
+    scripts: &'a [u8],
+    lines: &mut [u8; 524288],
+    at: usize,
+) -> usize {
+    let to = put_answer(lines, at, call, 0, &[0; 8]);
+    if call == 53 {
+        return put_part(
+            lines,
+            to,
+            script_asked(file, pairs, maps, report, state, scripts, args[0]),
+        );
+    }
+    put_part(
         lines,
-        at,
+        to,
+        part_asked(call, file, pairs, maps, report, buffer, args),
     )
 }
 
-// The smaller of two numbers.
-fn least(a: usize, b: usize) -> usize
-    ensures { λ r. ⌜ r ≤ b ⌝ }
-{
-    if a < b { a } else { b }
+// The line of any other call.
+fn answer_look(
+    call: u8,
+    args: &[u64; 8],
+    file: &[u8],
+    pairs: &[u32],
+    maps: &[u32],
+    report: &[u64; 8],
+    buffer: &[u8],
+    state: &[u64; 2],
+    scripts: &[u8],
+    lines: &mut [u8; 524288],
+    at: usize,
+) -> usize {
+    let mut words = [0u64; 8];
+    let number = if call == 48 {
+        exports::fastpsbt_output_output_script(
+            file,
+            pairs,
+            maps,
+            report,
+            state[0],
+            state[1],
+            scripts,
+            args[0],
+            &mut words,
+        )
+    } else {
+        ask_map(call, file, pairs, maps, report, buffer, args, &mut words)
+    };
+    put_answer(lines, at, call, number, &words)
 }
 
-// The same in the memory that is lent.
-fn answer_lent(
-    call: Call,
-    rooms: [usize; 9],
+// The line of a call over tables that a parse left or a record lent.
+fn answer_over(
+    call: u8,
+    args: &[u64; 8],
+    rooms: &[usize; 9],
     file: &[u8],
-    pairs: &mut [u32],
-    maps: &mut [u32],
+    pairs: &[u32],
+    maps: &[u32],
+    report: &[u64; 8],
+    list: &[u64],
+    buffer: &[u8],
+    state: &mut [u64; 2],
+    scripts: &mut [u8; 17920],
+    out: &mut [u8; 65536],
+    lines: &mut [u8; 524288],
+    at: usize,
+) -> usize {
+    match call {
+        2 | 54 => answer_set(
+            call,
+            rooms,
+            file,
+            pairs,
+            maps,
+            report,
+            list,
+            buffer,
+            state,
+            scripts,
+            lines,
+            at,
+        ),
+        3 => answer_tx(
+            rooms[7],
+            file,
+            pairs,
+            maps,
+            report,
+            state,
+            front(scripts, rooms[6]),
+            out,
+            lines,
+            at,
+        ),
+        49..=53 => answer_part(
+            call,
+            args,
+            file,
+            pairs,
+            maps,
+            report,
+            buffer,
+            state,
+            front(scripts, rooms[6]),
+            lines,
+            at,
+        ),
+        _ => answer_look(
+            call,
+            args,
+            file,
+            pairs,
+            maps,
+            report,
+            buffer,
+            state,
+            front(scripts, rooms[6]),
+            lines,
+            at,
+        ),
+    }
+}
+
+// The line of any call.
+fn answer(
+    call: u8,
+    args: &[u64; 8],
+    rooms: &[usize; 9],
+    file: &[u8],
+    pairs: &mut [u32; 32768],
+    maps: &mut [u32; 4096],
     report: &mut [u64; 8],
     list: &[u64],
     buffer: &[u8],
     state: &mut [u64; 2],
-    scripts: &mut [u8],
-    out: &mut [u8],
-    lines: &mut [u8],
+    scripts: &mut [u8; 17920],
+    out: &mut [u8; 65536],
+    lines: &mut [u8; 524288],
     at: usize,
 ) -> usize {
-    let p = least(rooms[1], pairs.len());
-    let m = least(rooms[2], maps.len());
-    let l = least(rooms[4], list.len());
-    let s = least(rooms[6], scripts.len());
-    let o = least(rooms[7], out.len());
-    answer(
+    if call == 0 {
+        return answer_parse(rooms, file, pairs, maps, report, lines, at);
+    }
+    answer_over(
         call,
-        front(file, rooms[0]),
-        &mut pairs[0..p],
-        &mut maps[0..m],
+        args,
+        rooms,
+        file,
+        cells(pairs, rooms[1]),
+        cells(maps, rooms[2]),
         report,
-        &list[0..l],
-        front(buffer, rooms[5]),
+        list,
+        buffer,
         state,
-        &mut scripts[0..s],
-        &mut out[0..o],
+        scripts,
+        out,
         lines,
         at,
     )
@@ -355,105 +475,76 @@ fn write_lines(lines: &[u8], at: usize) {
     io::write_all(1, front(lines, at));
 }
 
-// Writes the lines once they fill an eighth of the buffer: any one line fits the rest.
-fn write_many(lines: &[u8], at: usize) -> usize {
-    if at < lines.len() / 8 {
-        return at;
+// Ends a line, and writes the lines once they fill an eighth of the buffer: any one line fits the rest.
+fn end_line(lines: &mut [u8], at: usize) -> usize {
+    let to = put(lines, at, b"\n");
+    if to < lines.len() / 8 {
+        return to;
     }
-    write_lines(lines, at);
+    write_lines(lines, to);
     0
 }
 
-// Answers the next call of the body at hand, or reads the next record.
-fn turn(
+// Answers the next call of the body at hand.
+fn next_call(
     stand: Stand,
-    body: &mut [u8; 1048577],
-    rooms: &mut [usize; 9],
-    file: &mut [u8; 1048577],
+    rooms: &[usize; 9],
+    body: &[u8],
+    file: &[u8],
     pairs: &mut [u32; 32768],
     maps: &mut [u32; 4096],
     report: &mut [u64; 8],
-    list: &mut [u64; 1542],
-    buffer: &mut [u8; 131072],
+    list: &[u64],
+    buffer: &[u8],
     state: &mut [u64; 2],
     scripts: &mut [u8; 17920],
     out: &mut [u8; 65536],
     lines: &mut [u8; 524288],
 ) -> Stand {
-    let at = stand.at;
-    if stand.next < stand.end {
-        let call = read_call(front(body, stand.end), stand.next);
-        if call.next == 0 {
-            return cut(lines, at);
-        }
-        let to = answer_lent(
-            call,
-            *rooms,
-            file,
-            pairs,
-            maps,
-            report,
-            list,
-            buffer,
-            state,
-            scripts,
-            out,
-            lines,
-            at,
-        );
-        return Stand {
-            at: write_many(lines, to),
-            next: call.next,
-            end: stand.end,
-            going: true,
-        };
+    let mut args = [0u64; 8];
+    let call = read_call(front(body, stand.end), stand.next, &mut args);
+    if call.next == 0 {
+        return after(stand.at, nothing(CUT), false);
     }
-    let record = read_record(body);
-    if record.kind == OVER {
-        return Stand {
-            at,
-            next: 0,
-            end: 0,
-            going: false,
-        };
-    }
-    if record.kind == CALLS {
-        return Stand {
-            at,
-            next: 0,
-            end: record.length,
-            going: true,
-        };
-    }
-    if lend_room(
-        record,
-        body,
+    let to = answer(
+        call.number,
+        &args,
         rooms,
-        file,
+        front(file, rooms[0]),
         pairs,
         maps,
         report,
         list,
-        buffer,
+        front(buffer, rooms[5]),
+        state,
         scripts,
         out,
-        state,
-    ) {
-        return Stand {
-            at,
-            next: 0,
-            end: 0,
-            going: true,
-        };
+        lines,
+        stand.at,
+    );
+    Stand {
+        at: end_line(lines, to),
+        next: call.next,
+        end: stand.end,
+        how: 0,
     }
-    cut(lines, at)
+}
+
+// Writes the last lines.
+fn finish(lines: &mut [u8], at: usize, how: u8) {
+    if how == CUT {
+        let to = put(lines, at, b"cut\n");
+        write_lines(lines, to);
+        return;
+    }
+    write_lines(lines, at);
 }
 
 // A proved loop has to end, and nothing says that the input does: so it counts its turns down, from a number that no
 // run uses up.
 fn run(
-    body: &mut [u8; 1048577],
     rooms: &mut [usize; 9],
+    body: &mut [u8; 1048577],
     file: &mut [u8; 1048577],
     pairs: &mut [u32; 32768],
     maps: &mut [u32; 4096],
@@ -465,31 +556,43 @@ fn run(
     out: &mut [u8; 65536],
     lines: &mut [u8; 524288],
 ) {
-    let mut stand = Stand {
-        at: 0,
-        next: 0,
-        end: 0,
-        going: true,
-    };
+    let mut stand = after(0, nothing(0), true);
     let mut turns = u64::MAX;
     while 0 < turns {
-        stand = turn(
-            stand,
-            body,
-            rooms,
-            file,
-            pairs,
-            maps,
-            report,
-            list,
-            buffer,
-            state,
-            scripts,
-            out,
-            lines,
-        );
-        if !stand.going {
-            write_lines(lines, stand.at);
+        stand = if stand.next < stand.end {
+            next_call(
+                stand,
+                rooms,
+                body,
+                file,
+                pairs,
+                maps,
+                report,
+                list,
+                buffer,
+                state,
+                scripts,
+                out,
+                lines,
+            )
+        } else {
+            next_record(
+                stand.at,
+                rooms,
+                body,
+                file,
+                pairs,
+                maps,
+                report,
+                list,
+                buffer,
+                state,
+                scripts,
+                out,
+            )
+        };
+        if stand.how != 0 {
+            finish(lines, stand.at, stand.how);
             return;
         }
         turns = turns - 1;
@@ -497,8 +600,8 @@ fn run(
 }
 
 fn main() {
-    let mut body = [0u8; 1048577];
     let mut rooms = [0usize; 9];
+    let mut body = [0u8; 1048577];
     let mut file = [0u8; 1048577];
     let mut pairs = [0u32; 32768];
     let mut maps = [0u32; 4096];
@@ -510,8 +613,8 @@ fn main() {
     let mut out = [0u8; 65536];
     let mut lines = [0u8; 524288];
     run(
-        &mut body,
         &mut rooms,
+        &mut body,
         &mut file,
         &mut pairs,
         &mut maps,

@@ -4,11 +4,11 @@ use Rattle.answers.proofs.run.Statement.{statement}
 use Rattle.answers.proofs.run.Tie as tie
 
 abbrev Inv-loop : tie.InvT-loop
-Inv-loop body₀ rooms₀ file₀ pairs₀ maps₀ report₀ list₀ buffer₀ state₀ scripts₀ out₀ lines₀ stand₀ turns₀ body rooms file pairs maps report list buffer state scripts out lines stand turns =
+Inv-loop rooms₀ body₀ file₀ pairs₀ maps₀ report₀ list₀ buffer₀ state₀ scripts₀ out₀ lines₀ stand₀ turns₀ rooms body file pairs maps report list buffer state scripts out lines stand turns =
     Unit {0}
 
 abbrev μ-loop : tie.MeasureT-loop
-μ-loop body₀ rooms₀ file₀ pairs₀ maps₀ report₀ list₀ buffer₀ state₀ scripts₀ out₀ lines₀ stand₀ turns₀ body rooms file pairs maps report list buffer state scripts out lines stand turns =
+μ-loop rooms₀ body₀ file₀ pairs₀ maps₀ report₀ list₀ buffer₀ state₀ scripts₀ out₀ lines₀ stand₀ turns₀ rooms body file pairs maps report list buffer state scripts out lines stand turns =
     turns
 
 -- needs: needs
@@ -18,7 +18,10 @@ run-spec =
     (tie.spec
     Inv-loop
     μ-loop
+    (λ c κs. search (needs))
+    (λ c κs. search (needs))
     (λ c. search (needs))
+    (λ c κs. search (needs))
     (λ c κs. search (needs))
     (λ c κs. search (needs))
     (λ c. search (needs))
