@@ -1,12 +1,13 @@
 // The calls by their numbers: how one is read, and what it asks of the functions that firmware calls.
+use crate::memory::least;
+use crate::memory::part;
+use crate::memory::store_numbers;
 use export_words::psbt_of;
 use export_words::state_of;
 use format::Assignment;
-use format::Looked;
-use lookup::part_of;
 use wire::Cursor;
 use wire::SizeRead;
-ghost use Prim.Native.Nat.{_≤_, _<_};
+ghost use Prim.Native.Nat.{_<_};
 
 // How many calls there are, and how many arguments one has at most.
 const CALLS: u8 = 55;
@@ -17,39 +18,6 @@ const MOST: usize = 8;
 pub struct Call {
     pub number: u8,
     pub next: usize,
-}
-
-// The smaller of two numbers.
-fn least(a: usize, b: usize) -> usize
-    ensures { λ r. ⌜ r ≤ b ⌝ }
-{
-    if a < b { a } else { b }
-}
-
-// `len` bytes from `start` on, as many as there are.
-fn part(s: &[u8], start: u64, len: u64) -> &[u8] {
-    part_of(
-        s,
-        Looked::At {
-            start: start as usize,
-            len: len as usize,
-        },
-    )
-}
-
-// The bytes behind the first `n`, and the first `n`; as many as there are.
-pub fn behind(s: &[u8], n: usize) -> &[u8] {
-    part(s, n as u64, s.len() as u64)
-}
-
-pub fn front(s: &[u8], n: usize) -> &[u8] {
-    part(s, 0, n as u64)
-}
-
-// The first `n` cells, as many as there are.
-pub fn cells(table: &[u32], n: usize) -> &[u32] {
-    let end = least(n, table.len());
-    &table[0..end]
 }
 
 // Reads arguments, and answers the place behind them: 0 where the body ends before.
@@ -101,6 +69,11 @@ pub fn read_call(body: &[u8], at: usize, args: &mut [u64; 8]) -> Call {
     known(body[at], count, read_args(body, at + 2, count, args))
 }
 
+// A part of the buffer.
+fn data(buffer: &[u8], start: u64, len: u64) -> &[u8] {
+    part(buffer, start as usize, len as usize)
+}
+
 // A key's type.
 fn type_of(x: u64) -> u8 {
     (x % 256) as u8
@@ -112,7 +85,7 @@ fn ask_output(
     file: &[u8],
     pairs: &[u32],
     maps: &[u32],
-    report: &[u64; 8],
+    report: &[u64],
     i: u64,
     answer: &mut [u64; 8],
 ) -> u64 {
@@ -146,7 +119,7 @@ fn ask_input(
     file: &[u8],
     pairs: &[u32],
     maps: &[u32],
-    report: &[u64; 8],
+    report: &[u64],
     i: u64,
     answer: &mut [u64; 8],
 ) -> u64 {
@@ -181,15 +154,15 @@ fn ask_signer(
     file: &[u8],
     pairs: &[u32],
     maps: &[u32],
-    report: &[u64; 8],
+    report: &[u64],
     buffer: &[u8],
     args: &[u64; 8],
     answer: &mut [u64; 8],
 ) -> u64 {
     let i = args[0];
-    let a = part(buffer, args[1], args[2]);
-    let b = part(buffer, args[3], args[4]);
-    let c = part(buffer, args[5], args[6]);
+    let a = data(buffer, args[1], args[2]);
+    let b = data(buffer, args[3], args[4]);
+    let c = data(buffer, args[5], args[6]);
     match call {
         31 => exports::fastpsbt_input_get_musig2_pub_nonce(
             file,
@@ -254,14 +227,14 @@ fn ask_key(
     file: &[u8],
     pairs: &[u32],
     maps: &[u32],
-    report: &[u64; 8],
+    report: &[u64],
     buffer: &[u8],
     args: &[u64; 8],
     answer: &mut [u64; 8],
 ) -> u64 {
     let i = args[0];
-    let key = part(buffer, i, args[1]);
-    let a = part(buffer, args[1], args[2]);
+    let key = data(buffer, i, args[1]);
+    let a = data(buffer, args[1], args[2]);
     match call {
         7 => exports::fastpsbt_global_get_sp_ecdh_share(file, pairs, maps, report, key, answer),
         8 => exports::fastpsbt_global_get_sp_dleq_proof(file, pairs, maps, report, key, answer),
@@ -305,7 +278,7 @@ pub fn ask_map(
     file: &[u8],
     pairs: &[u32],
     maps: &[u32],
-    report: &[u64; 8],
+    report: &[u64],
     buffer: &[u8],
     args: &[u64; 8],
     answer: &mut [u64; 8],
@@ -321,7 +294,7 @@ pub fn ask_map(
             report,
             m,
             t,
-            part(buffer, args[2], args[3]),
+            data(buffer, args[2], args[3]),
             answer,
         ),
         5 => exports::fastpsbt_map_list(file, pairs, maps, report, m, t, answer),
@@ -353,8 +326,9 @@ pub fn write_tx(
     file: &[u8],
     pairs: &[u32],
     maps: &[u32],
-    report: &[u64; 8],
-    state: &[u64; 2],
+    report: &[u64],
+    set: u64,
+    written: u64,
     scripts: &[u8],
     out: &mut [u8],
     room: usize,
@@ -366,8 +340,8 @@ pub fn write_tx(
         pairs,
         maps,
         report,
-        state[0],
-        state[1],
+        set,
+        written,
         scripts,
         &mut out[0..o],
         answer,
@@ -396,10 +370,11 @@ fn set_by(
     file: &[u8],
     pairs: &[u32],
     maps: &[u32],
-    report: &[u64; 8],
+    report: &[u64],
     list: &[u64],
     buffer: &[u8],
-    state: &[u64; 2],
+    set: u64,
+    written: u64,
     scripts: &mut [u8],
     answer: &mut [u64; 8],
 ) -> u64 {
@@ -411,14 +386,14 @@ fn set_by(
             report,
             list,
             buffer,
-            state[0],
-            state[1],
+            set,
+            written,
             scripts,
             answer,
         );
     }
     let two = [assignment(list, 0), assignment(list, 3)];
-    let now = state_of(state[0], state[1]);
+    let state = state_of(set, written);
     let o = struct_setter::set_two(
         file,
         pairs,
@@ -426,28 +401,30 @@ fn set_by(
         psbt_of(report),
         two,
         buffer,
-        now,
+        state,
         scripts,
     );
     export_words::put_set(answer, o)
 }
 
-// The same in the first bytes of a memory.
-pub fn set(
+// The same in the first bytes of a memory, with the numbers of a list.
+pub fn set_scripts(
     call: u8,
     file: &[u8],
     pairs: &[u32],
     maps: &[u32],
-    report: &[u64; 8],
-    list: &[u64],
-    length: usize,
+    report: &[u64],
+    numbers: &[u8],
     buffer: &[u8],
-    state: &[u64; 2],
+    set: u64,
+    written: u64,
     scripts: &mut [u8],
     room: usize,
     answer: &mut [u64; 8],
 ) -> u64 {
-    let l = least(length, list.len());
+    let mut list = [0u64; 1542];
+    store_numbers(&mut list, numbers);
+    let l = least(numbers.len() / 8, list.len());
     let s = least(room, scripts.len());
     set_by(
         call,
@@ -457,7 +434,8 @@ pub fn set(
         report,
         &list[0..l],
         buffer,
-        state,
+        set,
+        written,
         &mut scripts[0..s],
         answer,
     )
@@ -469,7 +447,7 @@ pub fn part_asked<'a>(
     file: &'a [u8],
     pairs: &[u32],
     maps: &[u32],
-    report: &[u64; 8],
+    report: &[u64],
     buffer: &[u8],
     args: &[u64; 8],
 ) -> &'a [u8] {
@@ -484,7 +462,7 @@ pub fn part_asked<'a>(
             psbt,
             m,
             type_of(args[1]),
-            part(buffer, args[2], args[3]),
+            data(buffer, args[2], args[3]),
         ),
         50 => fastpsbt::map::nth_key(file, pairs, maps, psbt, m, i),
         51 => fastpsbt::map::nth_value(file, pairs, maps, psbt, m, i),
@@ -498,11 +476,12 @@ pub fn script_asked<'a>(
     file: &'a [u8],
     pairs: &[u32],
     maps: &[u32],
-    report: &[u64; 8],
-    state: &[u64; 2],
+    report: &[u64],
+    set: u64,
+    written: u64,
     scripts: &'a [u8],
     i: u64,
 ) -> &'a [u8] {
-    let now = state_of(state[0], state[1]);
-    fastpsbt::output::output_script_part(file, pairs, maps, psbt_of(report), now, scripts, i)
+    let state = state_of(set, written);
+    fastpsbt::output::output_script_part(file, pairs, maps, psbt_of(report), state, scripts, i)
 }

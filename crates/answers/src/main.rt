@@ -1,483 +1,376 @@
 // Reads records from standard input until it ends. A record lends memory or asks calls, and each call is answered by a line
 // on standard output.
 use crate::calls::ask_map;
-use crate::calls::behind;
-use crate::calls::cells;
-use crate::calls::front;
 use crate::calls::parse;
 use crate::calls::part_asked;
 use crate::calls::read_call;
 use crate::calls::script_asked;
-use crate::calls::set;
+use crate::calls::set_scripts;
 use crate::calls::write_tx;
 use crate::lines::put_answer;
 use crate::lines::put_bytes;
 use crate::lines::put_part;
 use crate::lines::put_table;
-use crate::memory::lend_bytes;
-use crate::memory::lend_numbers;
-use crate::memory::lend_words;
+use crate::memory::BODY;
+use crate::memory::BUFFER;
+use crate::memory::CALLS;
+use crate::memory::CUT;
+use crate::memory::LIST;
+use crate::memory::Record;
+use crate::memory::cells;
+use crate::memory::number;
+use crate::memory::part;
+use crate::memory::read_record;
+use crate::memory::size_of;
+use crate::memory::store_cells;
+use crate::memory::store_numbers;
 use text::put;
-use wire::u32_from_le_bytes;
+use text::put_byte;
 
 mod calls;
 mod lines;
 mod memory;
 
-// The kind of a record whose body is calls; behind it, what stands for the input's end and for a record that is cut.
-const CALLS: u8 = 9;
-
-const OVER: u8 = 10;
-
-const CUT: u8 = 11;
-
-// A record's head. Its body is read beside it.
-struct Record {
-    kind: u8,
-    room: usize,
-    length: usize,
-}
-
-// Where the lines end, where the next call of the body at hand begins and where they all end, and how the run ended: it goes
-// on, or it is over or cut.
+// How far the run is: where the lines end, where the next call of the body at hand begins and where they all end, and how the
+// run ended, 0 where it goes on. How many cells each kind of memory has, and what earlier calls left for later ones.
 struct Stand {
     at: usize,
     next: usize,
     end: usize,
     how: u8,
+    rooms: [usize; 9],
+    report: [u64; 8],
+    set: u64,
+    written: u64,
 }
 
-fn nothing(kind: u8) -> Record {
-    Record {
-        kind,
-        room: 0,
-        length: 0,
-    }
-}
-
-// The little-endian number of four bytes from `at` on.
-fn word(s: &[u8], at: usize) -> usize {
-    u32_from_le_bytes(behind(s, at)) as usize
-}
-
-// Reads as much of a body as the buffer has.
-fn read_body(kind: u8, room: usize, body: &mut [u8]) -> Record {
-    if io::read_full(0, body) < body.len() {
-        return nothing(CUT);
-    }
-    Record {
-        kind,
-        room,
-        length: body.len(),
+fn begin() -> Stand {
+    Stand {
+        at: 0,
+        next: 0,
+        end: 0,
+        how: 0,
+        rooms: [0; 9],
+        report: [0; 8],
+        set: 0,
+        written: 0,
     }
 }
 
-// Reads one record.
-fn read_record(body: &mut [u8]) -> Record {
-    let mut head = [0u8; 9];
-    let got = io::read_full(0, &mut head);
-    if got == 0 {
-        return nothing(OVER);
-    }
-    if got < 9 {
-        return nothing(CUT);
-    }
-    if CALLS < head[0] {
-        return nothing(CUT);
-    }
-    let length = word(&head, 5);
-    if body.len() < length {
-        return nothing(CUT);
-    }
-    read_body(head[0], word(&head, 1), &mut body[0..length])
+// A file takes all other memory back.
+fn taken_back(stand: Stand) -> Stand {
+    let mut s = begin();
+    s.at = stand.at;
+    s
 }
 
-// Notes how many cells a memory has. A file takes all other memory back.
-fn take_back(
-    kind: u8,
-    room: usize,
-    rooms: &mut [usize; 9],
-    report: &mut [u64; 8],
-    state: &mut [u64; 2],
-) {
+// So many cells of a kind are lent.
+fn lent(stand: Stand, kind: u8, room: usize) -> Stand {
+    let mut s = stand;
+    let mut rooms = stand.rooms;
     let k = kind as usize;
-    if k == 0 {
-        *rooms = [0; 9];
-        *report = [0; 8];
-        *state = [0; 2];
-    }
     if k < 9 {
         rooms[k] = room;
     }
+    s.rooms = rooms;
+    s
 }
 
-// Lends memory of its kind, where the body fits it.
-fn lend(
+// A report is lent.
+fn reported(stand: Stand, body: &[u8]) -> Stand {
+    let mut s = stand;
+    let mut report = [0u64; 8];
+    store_numbers(&mut report, body);
+    s.report = report;
+    s
+}
+
+// What a record changes: its calls come next, the run ends, or memory is lent.
+fn after(stand: Stand, record: Record, body: &[u8]) -> Stand {
+    let mut s = stand;
+    let kind = record.kind;
+    match kind {
+        0 => lent(taken_back(stand), kind, record.room),
+        1 | 2 | 4 | 5 | 6 | 7 => lent(stand, kind, record.room),
+        3 => reported(stand, body),
+        8 => {
+            s.set = number(body, 0);
+            s.written = number(body, 1);
+            s
+        }
+        CALLS => {
+            s.next = 0;
+            s.end = record.size;
+            s
+        }
+        _ => {
+            s.how = kind;
+            s
+        }
+    }
+}
+
+// Stores what calls write.
+fn store(
     kind: u8,
-    room: usize,
     body: &[u8],
-    file: &mut [u8; 1048577],
     pairs: &mut [u32; 32768],
     maps: &mut [u32; 4096],
-    report: &mut [u64; 8],
-    list: &mut [u64; 1542],
-    buffer: &mut [u8; 131072],
-    state: &mut [u64; 2],
     scripts: &mut [u8; 17920],
     out: &mut [u8; 65536],
-) -> bool {
+) {
     match kind {
-        0 => lend_bytes(file, room, body),
-        1 => lend_words(pairs, room, body),
-        2 => lend_words(maps, room, body),
-        3 => lend_numbers(report, room, body),
-        4 => lend_numbers(list, room, body),
-        5 => lend_bytes(buffer, room, body),
-        6 => lend_bytes(scripts, room, body),
-        7 => lend_bytes(out, room, body),
-        8 => lend_numbers(state, room, body),
-        _ => false,
-    }
-}
-
-// What follows a record: its calls, or the next record, where `lent` says that its memory is lent.
-fn after(at: usize, record: Record, lent: bool) -> Stand {
-    let kind = record.kind;
-    if kind == CALLS {
-        return Stand {
-            at,
-            next: 0,
-            end: record.length,
-            how: 0,
-        };
-    }
-    if CALLS < kind {
-        return Stand {
-            at,
-            next: 0,
-            end: 0,
-            how: kind,
-        };
-    }
-    if lent {
-        return Stand {
-            at,
-            next: 0,
-            end: 0,
-            how: 0,
-        };
-    }
-    Stand {
-        at,
-        next: 0,
-        end: 0,
-        how: CUT,
+        1 => store_cells(pairs, body),
+        2 => store_cells(maps, body),
+        6 => {
+            put(scripts, 0, body);
+        }
+        7 => {
+            put(out, 0, body);
+        }
+        _ => {}
     }
 }
 
 // Reads a record, and lends the memory that it has.
 fn next_record(
-    at: usize,
-    rooms: &mut [usize; 9],
-    body: &mut [u8; 1048577],
-    file: &mut [u8; 1048577],
+    stand: Stand,
+    texts: &mut [u8; 2240562],
     pairs: &mut [u32; 32768],
     maps: &mut [u32; 4096],
-    report: &mut [u64; 8],
-    list: &mut [u64; 1542],
-    buffer: &mut [u8; 131072],
-    state: &mut [u64; 2],
     scripts: &mut [u8; 17920],
     out: &mut [u8; 65536],
 ) -> Stand {
-    let record = read_record(body);
-    take_back(record.kind, record.room, rooms, report, state);
-    let lent = lend(
-        record.kind,
-        record.room,
-        front(body, record.length),
-        file,
-        pairs,
-        maps,
-        report,
-        list,
-        buffer,
-        state,
-        scripts,
-        out,
-    );
-    after(at, record, lent)
+    let record = read_record(texts);
+    let body = part(texts, BODY, record.size);
+    store(record.kind, body, pairs, maps, scripts, out);
+    after(stand, record, body)
 }
 
-// The line of a parse. An accepted one leaves its report for the calls behind it.
+// A line of so many bytes is put. An accepted parse leaves its report, an accepted setter or transaction its state.
+fn put_to(stand: Stand, at: usize) -> Stand {
+    let mut s = stand;
+    s.at = at;
+    s
+}
+
+fn parsed(stand: Stand, at: usize, answer: u64, words: [u64; 8]) -> Stand {
+    let mut s = put_to(stand, at);
+    if answer == 0 {
+        s.report = words;
+    }
+    s
+}
+
+fn went(stand: Stand, at: usize, answer: u64, set: u64, written: u64) -> Stand {
+    let mut s = put_to(stand, at);
+    if answer == 0 {
+        s.set = set;
+        s.written = written;
+    }
+    s
+}
+
+// The line of a parse.
 fn answer_parse(
-    rooms: &[usize; 9],
-    file: &[u8],
+    stand: Stand,
+    texts: &[u8],
     pairs: &mut [u32; 32768],
     maps: &mut [u32; 4096],
-    report: &mut [u64; 8],
     lines: &mut [u8; 524288],
-    at: usize,
-) -> usize {
+) -> Stand {
+    let rooms = stand.rooms;
     let mut words = [0u64; 8];
-    let number = parse(file, pairs, rooms[1], maps, rooms[2], &mut words);
-    if number == 0 {
-        *report = words;
-    }
-    let to = put_answer(lines, at, 0, number, &words);
+    let answer = parse(
+        part(texts, 0, rooms[0]),
+        pairs,
+        rooms[1],
+        maps,
+        rooms[2],
+        &mut words,
+    );
+    let to = put_answer(lines, stand.at, 0, answer, &words);
     let to = put_table(lines, to, cells(pairs, rooms[1]));
-    put_table(lines, to, cells(maps, rooms[2]))
+    let to = put_table(lines, to, cells(maps, rooms[2]));
+    parsed(stand, to, answer, words)
 }
 
-// The line of either setter. An accepted one leaves its state.
+// The line of either setter.
 fn answer_set(
+    stand: Stand,
     call: u8,
-    rooms: &[usize; 9],
-    file: &[u8],
+    texts: &[u8],
     pairs: &[u32],
     maps: &[u32],
-    report: &[u64; 8],
-    list: &[u64],
-    buffer: &[u8],
-    state: &mut [u64; 2],
     scripts: &mut [u8; 17920],
     lines: &mut [u8; 524288],
-    at: usize,
-) -> usize {
+) -> Stand {
+    let rooms = stand.rooms;
     let mut words = [0u64; 8];
-    let number = set(
+    let answer = set_scripts(
         call,
-        file,
-        pairs,
-        maps,
-        report,
-        list,
-        rooms[4],
-        buffer,
-        state,
+        part(texts, 0, rooms[0]),
+        cells(pairs, rooms[1]),
+        cells(maps, rooms[2]),
+        &stand.report,
+        part(texts, LIST, size_of(8, rooms[4])),
+        part(texts, BUFFER, rooms[5]),
+        stand.set,
+        stand.written,
         scripts,
         rooms[6],
         &mut words,
     );
-    if number == 0 {
-        *state = [words[1], words[2]];
-    }
-    let to = put_answer(lines, at, call, number, &words);
-    put_bytes(lines, to, front(scripts, rooms[6]))
+    let to = put_answer(lines, stand.at, call, answer, &words);
+    let to = put_bytes(lines, to, part(scripts, 0, rooms[6]));
+    went(stand, to, answer, words[1], words[2])
 }
 
-// The line of a transaction, likewise.
+// The line of a transaction.
 fn answer_tx(
-    room: usize,
-    file: &[u8],
+    stand: Stand,
+    texts: &[u8],
     pairs: &[u32],
     maps: &[u32],
-    report: &[u64; 8],
-    state: &mut [u64; 2],
     scripts: &[u8],
     out: &mut [u8; 65536],
     lines: &mut [u8; 524288],
-    at: usize,
-) -> usize {
+) -> Stand {
+    let rooms = stand.rooms;
     let mut words = [0u64; 8];
-    let number = write_tx(
-        file,
-        pairs,
-        maps,
-        report,
-        state,
-        scripts,
+    let answer = write_tx(
+        part(texts, 0, rooms[0]),
+        cells(pairs, rooms[1]),
+        cells(maps, rooms[2]),
+        &stand.report,
+        stand.set,
+        stand.written,
+        part(scripts, 0, rooms[6]),
         out,
-        room,
+        rooms[7],
         &mut words,
     );
-    if number == 0 {
-        *state = [words[2], words[3]];
-    }
-    let to = put_answer(lines, at, 3, number, &words);
-    put_bytes(lines, to, front(out, room))
+    let to = put_answer(lines, stand.at, 3, answer, &words);
+    let to = put_bytes(lines, to, part(out, 0, rooms[7]));
+    went(stand, to, answer, words[2], words[3])
 }
 
-// The line of a call that hands back a part.
-fn answer_part<'a>(
+// The line of any other call over the memory that is lent: its answer, or the part that it hands back.
+fn answer_over<'a>(
+    stand: Stand,
     call: u8,
     args: &[u64; 8],
     file: &'a [u8],
     pairs: &[u32],
     maps: &[u32],
-    report: &[u64; 8],
     buffer: &[u8],
-    state: &[u64; 2],
     scripts: &'a [u8],
     lines: &mut [u8; 524288],
-    at: usize,
 ) -> usize {
-    let to = put_answer(lines, at, call, 0, &[0; 8]);
-    if call == 53 {
-        return put_part(
-            lines,
-            to,
-            script_asked(file, pairs, maps, report, state, scripts, args[0]),
-        );
-    }
-    put_part(
-        lines,
-        to,
-        part_asked(call, file, pairs, maps, report, buffer, args),
-    )
-}
-
-// The line of any other call.
-fn answer_look(
-    call: u8,
-    args: &[u64; 8],
-    file: &[u8],
-    pairs: &[u32],
-    maps: &[u32],
-    report: &[u64; 8],
-    buffer: &[u8],
-    state: &[u64; 2],
-    scripts: &[u8],
-    lines: &mut [u8; 524288],
-    at: usize,
-) -> usize {
+    let at = stand.at;
     let mut words = [0u64; 8];
-    let number = if call == 48 {
-        exports::fastpsbt_output_output_script(
-            file,
-            pairs,
-            maps,
-            report,
-            state[0],
-            state[1],
-            scripts,
-            args[0],
-            &mut words,
-        )
-    } else {
-        ask_map(call, file, pairs, maps, report, buffer, args, &mut words)
-    };
-    put_answer(lines, at, call, number, &words)
+    let set = stand.set;
+    let written = stand.written;
+    let i = args[0];
+    match call {
+        48 => {
+            let answer = exports::fastpsbt_output_output_script(
+                file,
+                pairs,
+                maps,
+                &stand.report,
+                set,
+                written,
+                scripts,
+                i,
+                &mut words,
+            );
+            put_answer(lines, at, call, answer, &words)
+        }
+        49..=52 => {
+            let to = put_answer(lines, at, call, 0, &words);
+            put_part(
+                lines,
+                to,
+                part_asked(call, file, pairs, maps, &stand.report, buffer, args),
+            )
+        }
+        53 => {
+            let to = put_answer(lines, at, call, 0, &words);
+            put_part(
+                lines,
+                to,
+                script_asked(file, pairs, maps, &stand.report, set, written, scripts, i),
+            )
+        }
+        _ => {
+            let answer = ask_map(
+                call,
+                file,
+                pairs,
+                maps,
+                &stand.report,
+                buffer,
+                args,
+                &mut words,
+            );
+            put_answer(lines, at, call, answer, &words)
+        }
+    }
 }
 
-// The line of a call over tables that a parse left or a record lent.
-fn answer_over(
+fn answer_look<'a>(
+    stand: Stand,
     call: u8,
     args: &[u64; 8],
-    rooms: &[usize; 9],
-    file: &[u8],
+    texts: &'a [u8],
     pairs: &[u32],
     maps: &[u32],
-    report: &[u64; 8],
-    list: &[u64],
-    buffer: &[u8],
-    state: &mut [u64; 2],
-    scripts: &mut [u8; 17920],
-    out: &mut [u8; 65536],
+    scripts: &'a [u8],
     lines: &mut [u8; 524288],
-    at: usize,
-) -> usize {
-    match call {
-        2 | 54 => answer_set(
-            call,
-            rooms,
-            file,
-            pairs,
-            maps,
-            report,
-            list,
-            buffer,
-            state,
-            scripts,
-            lines,
-            at,
-        ),
-        3 => answer_tx(
-            rooms[7],
-            file,
-            pairs,
-            maps,
-            report,
-            state,
-            front(scripts, rooms[6]),
-            out,
-            lines,
-            at,
-        ),
-        49..=53 => answer_part(
-            call,
-            args,
-            file,
-            pairs,
-            maps,
-            report,
-            buffer,
-            state,
-            front(scripts, rooms[6]),
-            lines,
-            at,
-        ),
-        _ => answer_look(
-            call,
-            args,
-            file,
-            pairs,
-            maps,
-            report,
-            buffer,
-            state,
-            front(scripts, rooms[6]),
-            lines,
-            at,
-        ),
-    }
+) -> Stand {
+    let rooms = stand.rooms;
+    let to = answer_over(
+        stand,
+        call,
+        args,
+        part(texts, 0, rooms[0]),
+        cells(pairs, rooms[1]),
+        cells(maps, rooms[2]),
+        part(texts, BUFFER, rooms[5]),
+        part(scripts, 0, rooms[6]),
+        lines,
+    );
+    put_to(stand, to)
 }
 
 // The line of any call.
 fn answer(
+    stand: Stand,
     call: u8,
     args: &[u64; 8],
-    rooms: &[usize; 9],
-    file: &[u8],
+    texts: &[u8],
     pairs: &mut [u32; 32768],
     maps: &mut [u32; 4096],
-    report: &mut [u64; 8],
-    list: &[u64],
-    buffer: &[u8],
-    state: &mut [u64; 2],
     scripts: &mut [u8; 17920],
     out: &mut [u8; 65536],
     lines: &mut [u8; 524288],
-    at: usize,
-) -> usize {
-    if call == 0 {
-        return answer_parse(rooms, file, pairs, maps, report, lines, at);
+) -> Stand {
+    match call {
+        0 => answer_parse(stand, texts, pairs, maps, lines),
+        2 | 54 => answer_set(stand, call, texts, pairs, maps, scripts, lines),
+        3 => answer_tx(stand, texts, pairs, maps, scripts, out, lines),
+        _ => answer_look(stand, call, args, texts, pairs, maps, scripts, lines),
     }
-    answer_over(
-        call,
-        args,
-        rooms,
-        file,
-        cells(pairs, rooms[1]),
-        cells(maps, rooms[2]),
-        report,
-        list,
-        buffer,
-        state,
-        scripts,
-        out,
-        lines,
-        at,
-    )
 }
 
 fn write_lines(lines: &[u8], at: usize) {
-    io::write_all(1, front(lines, at));
+    io::write_all(1, part(lines, 0, at));
 }
 
 // Ends a line, and writes the lines once they fill an eighth of the buffer: any one line fits the rest.
 fn end_line(lines: &mut [u8], at: usize) -> usize {
-    let to = put(lines, at, b"\n");
+    let to = put_byte(lines, at, b'\n');
     if to < lines.len() / 8 {
         return to;
     }
@@ -488,46 +381,49 @@ fn end_line(lines: &mut [u8], at: usize) -> usize {
 // Answers the next call of the body at hand.
 fn next_call(
     stand: Stand,
-    rooms: &[usize; 9],
-    body: &[u8],
-    file: &[u8],
+    texts: &[u8],
     pairs: &mut [u32; 32768],
     maps: &mut [u32; 4096],
-    report: &mut [u64; 8],
-    list: &[u64],
-    buffer: &[u8],
-    state: &mut [u64; 2],
     scripts: &mut [u8; 17920],
     out: &mut [u8; 65536],
     lines: &mut [u8; 524288],
 ) -> Stand {
+    let mut s = stand;
     let mut args = [0u64; 8];
-    let call = read_call(front(body, stand.end), stand.next, &mut args);
+    let call = read_call(part(texts, BODY, stand.end), stand.next, &mut args);
     if call.next == 0 {
-        return after(stand.at, nothing(CUT), false);
+        s.how = CUT;
+        return s;
     }
-    let to = answer(
+    s.next = call.next;
+    let done = answer(
+        s,
         call.number,
         &args,
-        rooms,
-        front(file, rooms[0]),
+        texts,
         pairs,
         maps,
-        report,
-        list,
-        front(buffer, rooms[5]),
-        state,
         scripts,
         out,
         lines,
-        stand.at,
     );
-    Stand {
-        at: end_line(lines, to),
-        next: call.next,
-        end: stand.end,
-        how: 0,
+    put_to(done, end_line(lines, done.at))
+}
+
+// Answers a call, or reads a record.
+fn turn(
+    stand: Stand,
+    texts: &mut [u8; 2240562],
+    pairs: &mut [u32; 32768],
+    maps: &mut [u32; 4096],
+    scripts: &mut [u8; 17920],
+    out: &mut [u8; 65536],
+    lines: &mut [u8; 524288],
+) -> Stand {
+    if stand.next < stand.end {
+        return next_call(stand, texts, pairs, maps, scripts, out, lines);
     }
+    next_record(stand, texts, pairs, maps, scripts, out)
 }
 
 // Writes the last lines.
@@ -543,54 +439,17 @@ fn finish(lines: &mut [u8], at: usize, how: u8) {
 // A proved loop has to end, and nothing says that the input does: so it counts its turns down, from a number that no
 // run uses up.
 fn run(
-    rooms: &mut [usize; 9],
-    body: &mut [u8; 1048577],
-    file: &mut [u8; 1048577],
+    texts: &mut [u8; 2240562],
     pairs: &mut [u32; 32768],
     maps: &mut [u32; 4096],
-    report: &mut [u64; 8],
-    list: &mut [u64; 1542],
-    buffer: &mut [u8; 131072],
-    state: &mut [u64; 2],
     scripts: &mut [u8; 17920],
     out: &mut [u8; 65536],
     lines: &mut [u8; 524288],
 ) {
-    let mut stand = after(0, nothing(0), true);
+    let mut stand = begin();
     let mut turns = u64::MAX;
     while 0 < turns {
-        stand = if stand.next < stand.end {
-            next_call(
-                stand,
-                rooms,
-                body,
-                file,
-                pairs,
-                maps,
-                report,
-                list,
-                buffer,
-                state,
-                scripts,
-                out,
-                lines,
-            )
-        } else {
-            next_record(
-                stand.at,
-                rooms,
-                body,
-                file,
-                pairs,
-                maps,
-                report,
-                list,
-                buffer,
-                state,
-                scripts,
-                out,
-            )
-        };
+        stand = turn(stand, texts, pairs, maps, scripts, out, lines);
         if stand.how != 0 {
             finish(lines, stand.at, stand.how);
             return;
@@ -600,28 +459,16 @@ fn run(
 }
 
 fn main() {
-    let mut rooms = [0usize; 9];
-    let mut body = [0u8; 1048577];
-    let mut file = [0u8; 1048577];
+    let mut texts = [0u8; 2240562];
     let mut pairs = [0u32; 32768];
     let mut maps = [0u32; 4096];
-    let mut report = [0u64; 8];
-    let mut list = [0u64; 1542];
-    let mut buffer = [0u8; 131072];
-    let mut state = [0u64; 2];
     let mut scripts = [0u8; 17920];
     let mut out = [0u8; 65536];
     let mut lines = [0u8; 524288];
     run(
-        &mut rooms,
-        &mut body,
-        &mut file,
+        &mut texts,
         &mut pairs,
         &mut maps,
-        &mut report,
-        &mut list,
-        &mut buffer,
-        &mut state,
         &mut scripts,
         &mut out,
         &mut lines,
