@@ -272,7 +272,7 @@ fn ask_key(
     }
 }
 
-// The whole file, and maps by their numbers and their keys' types.
+// Any call that writes no memory: the whole file, maps by their numbers and their keys' types, and an output's script.
 pub fn ask_map(
     call: u8,
     file: &[u8],
@@ -280,6 +280,9 @@ pub fn ask_map(
     maps: &[u32],
     report: &[u64],
     buffer: &[u8],
+    set: u64,
+    written: u64,
+    scripts: &[u8],
     args: &[u64; 8],
     answer: &mut [u64; 8],
 ) -> u64 {
@@ -303,6 +306,17 @@ pub fn ask_map(
         10 => exports::fastpsbt_global_sp_dleq_proofs(file, pairs, maps, report, answer),
         24 => exports::fastpsbt_input_iter_keys(file, pairs, maps, report, m, t, answer),
         43 => exports::fastpsbt_output_iter_keys(file, pairs, maps, report, m, t, answer),
+        48 => exports::fastpsbt_output_output_script(
+            file,
+            pairs,
+            maps,
+            report,
+            set,
+            written,
+            scripts,
+            m,
+            answer,
+        ),
         _ => ask_key(call, file, pairs, maps, report, buffer, args, answer),
     }
 }
@@ -447,8 +461,11 @@ pub fn part_asked<'a>(
     file: &'a [u8],
     pairs: &[u32],
     maps: &[u32],
-    report: &[u64],
+    report: &[u64; 8],
     buffer: &[u8],
+    set: u64,
+    written: u64,
+    scripts: &'a [u8],
     args: &[u64; 8],
 ) -> &'a [u8] {
     let psbt = psbt_of(report);
@@ -467,21 +484,14 @@ pub fn part_asked<'a>(
         50 => fastpsbt::map::nth_key(file, pairs, maps, psbt, m, i),
         51 => fastpsbt::map::nth_value(file, pairs, maps, psbt, m, i),
         52 => fastpsbt::input::get_witness_utxo_script(file, pairs, maps, psbt, m),
-        _ => &file[..0],
+        _ => fastpsbt::output::output_script_part(
+            file,
+            pairs,
+            maps,
+            psbt,
+            state_of(set, written),
+            scripts,
+            m,
+        ),
     }
-}
-
-// The script that pays an output.
-pub fn script_asked<'a>(
-    file: &'a [u8],
-    pairs: &[u32],
-    maps: &[u32],
-    report: &[u64],
-    set: u64,
-    written: u64,
-    scripts: &'a [u8],
-    i: u64,
-) -> &'a [u8] {
-    let state = state_of(set, written);
-    fastpsbt::output::output_script_part(file, pairs, maps, psbt_of(report), state, scripts, i)
 }

@@ -4,7 +4,6 @@ use crate::calls::ask_map;
 use crate::calls::parse;
 use crate::calls::part_asked;
 use crate::calls::read_call;
-use crate::calls::script_asked;
 use crate::calls::set_scripts;
 use crate::calls::write_tx;
 use crate::lines::put_answer;
@@ -174,21 +173,14 @@ fn went(stand: Stand, at: usize, answer: u64, set: u64, written: u64) -> Stand {
 // The line of a parse.
 fn answer_parse(
     stand: Stand,
-    texts: &[u8],
+    file: &[u8],
     pairs: &mut [u32; 32768],
     maps: &mut [u32; 4096],
     lines: &mut [u8; 524288],
 ) -> Stand {
     let rooms = stand.rooms;
     let mut words = [0u64; 8];
-    let answer = parse(
-        part(texts, 0, rooms[0]),
-        pairs,
-        rooms[1],
-        maps,
-        rooms[2],
-        &mut words,
-    );
+    let answer = parse(file, pairs, rooms[1], maps, rooms[2], &mut words);
     let to = put_answer(lines, stand.at, 0, answer, &words);
     let to = put_table(lines, to, cells(pairs, rooms[1]));
     let to = put_table(lines, to, cells(maps, rooms[2]));
@@ -200,21 +192,25 @@ fn answer_set(
     stand: Stand,
     call: u8,
     texts: &[u8],
+    file: &[u8],
     pairs: &[u32],
     maps: &[u32],
     scripts: &mut [u8; 17920],
     lines: &mut [u8; 524288],
 ) -> Stand {
     let rooms = stand.rooms;
+    let list = part(texts, LIST, size_of(8, rooms[4]));
+    let buffer = part(texts, BUFFER, rooms[5]);
+    let report = stand.report;
     let mut words = [0u64; 8];
     let answer = set_scripts(
         call,
-        part(texts, 0, rooms[0]),
-        cells(pairs, rooms[1]),
-        cells(maps, rooms[2]),
-        &stand.report,
-        part(texts, LIST, size_of(8, rooms[4])),
-        part(texts, BUFFER, rooms[5]),
+        file,
+        pairs,
+        maps,
+        &report,
+        list,
+        buffer,
         stand.set,
         stand.written,
         scripts,
@@ -229,7 +225,7 @@ fn answer_set(
 // The line of a transaction.
 fn answer_tx(
     stand: Stand,
-    texts: &[u8],
+    file: &[u8],
     pairs: &[u32],
     maps: &[u32],
     scripts: &[u8],
@@ -237,15 +233,16 @@ fn answer_tx(
     lines: &mut [u8; 524288],
 ) -> Stand {
     let rooms = stand.rooms;
+    let report = stand.report;
     let mut words = [0u64; 8];
     let answer = write_tx(
-        part(texts, 0, rooms[0]),
-        cells(pairs, rooms[1]),
-        cells(maps, rooms[2]),
-        &stand.report,
+        file,
+        pairs,
+        maps,
+        &report,
         stand.set,
         stand.written,
-        part(scripts, 0, rooms[6]),
+        scripts,
         out,
         rooms[7],
         &mut words,
@@ -255,8 +252,16 @@ fn answer_tx(
     went(stand, to, answer, words[2], words[3])
 }
 
-// The line of any other call over the memory that is lent: its answer, or the part that it hands back.
-fn answer_over<'a>(
+// The calls that hand back a part.
+fn has_part(call: u8) -> bool {
+    match call {
+        49..=53 => true,
+        _ => false,
+    }
+}
+
+// The line of any other call.
+fn answer_look<'a>(
     stand: Stand,
     call: u8,
     args: &[u64; 8],
@@ -266,82 +271,80 @@ fn answer_over<'a>(
     buffer: &[u8],
     scripts: &'a [u8],
     lines: &mut [u8; 524288],
-) -> usize {
-    let at = stand.at;
-    let mut words = [0u64; 8];
+) -> Stand {
     let set = stand.set;
     let written = stand.written;
-    let i = args[0];
-    match call {
-        48 => {
-            let answer = exports::fastpsbt_output_output_script(
-                file,
-                pairs,
-                maps,
-                &stand.report,
-                set,
-                written,
-                scripts,
-                i,
-                &mut words,
-            );
-            put_answer(lines, at, call, answer, &words)
-        }
-        49..=52 => {
-            let to = put_answer(lines, at, call, 0, &words);
-            put_part(
-                lines,
-                to,
-                part_asked(call, file, pairs, maps, &stand.report, buffer, args),
-            )
-        }
-        53 => {
-            let to = put_answer(lines, at, call, 0, &words);
-            put_part(
-                lines,
-                to,
-                script_asked(file, pairs, maps, &stand.report, set, written, scripts, i),
-            )
-        }
-        _ => {
-            let answer = ask_map(
-                call,
-                file,
-                pairs,
-                maps,
-                &stand.report,
-                buffer,
-                args,
-                &mut words,
-            );
-            put_answer(lines, at, call, answer, &words)
-        }
+    let report = stand.report;
+    let mut words = [0u64; 8];
+    let answer = ask_map(
+        call,
+        file,
+        pairs,
+        maps,
+        &report,
+        buffer,
+        set,
+        written,
+        scripts,
+        args,
+        &mut words,
+    );
+    let to = put_answer(lines, stand.at, call, answer, &words);
+    if has_part(call) {
+        let bytes = part_asked(
+            call,
+            file,
+            pairs,
+            maps,
+            &report,
+            buffer,
+            set,
+            written,
+            scripts,
+            args,
+        );
+        return put_to(stand, put_part(lines, to, bytes));
     }
+    put_to(stand, to)
 }
 
-fn answer_look<'a>(
+// The line of a call over tables that are left or lent.
+fn answer_over(
     stand: Stand,
     call: u8,
     args: &[u64; 8],
-    texts: &'a [u8],
+    texts: &[u8],
+    file: &[u8],
     pairs: &[u32],
     maps: &[u32],
-    scripts: &'a [u8],
+    scripts: &mut [u8; 17920],
+    out: &mut [u8; 65536],
     lines: &mut [u8; 524288],
 ) -> Stand {
     let rooms = stand.rooms;
-    let to = answer_over(
-        stand,
-        call,
-        args,
-        part(texts, 0, rooms[0]),
-        cells(pairs, rooms[1]),
-        cells(maps, rooms[2]),
-        part(texts, BUFFER, rooms[5]),
-        part(scripts, 0, rooms[6]),
-        lines,
-    );
-    put_to(stand, to)
+    match call {
+        2 | 54 => answer_set(stand, call, texts, file, pairs, maps, scripts, lines),
+        3 => answer_tx(
+            stand,
+            file,
+            pairs,
+            maps,
+            part(scripts, 0, rooms[6]),
+            out,
+            lines,
+        ),
+        _ => answer_look(
+            stand,
+            call,
+            args,
+            file,
+            pairs,
+            maps,
+            part(texts, BUFFER, rooms[5]),
+            part(scripts, 0, rooms[6]),
+            lines,
+        ),
+    }
 }
 
 // The line of any call.
@@ -356,12 +359,23 @@ fn answer(
     out: &mut [u8; 65536],
     lines: &mut [u8; 524288],
 ) -> Stand {
-    match call {
-        0 => answer_parse(stand, texts, pairs, maps, lines),
-        2 | 54 => answer_set(stand, call, texts, pairs, maps, scripts, lines),
-        3 => answer_tx(stand, texts, pairs, maps, scripts, out, lines),
-        _ => answer_look(stand, call, args, texts, pairs, maps, scripts, lines),
+    let rooms = stand.rooms;
+    let file = part(texts, 0, rooms[0]);
+    if call == 0 {
+        return answer_parse(stand, file, pairs, maps, lines);
     }
+    answer_over(
+        stand,
+        call,
+        args,
+        texts,
+        file,
+        cells(pairs, rooms[1]),
+        cells(maps, rooms[2]),
+        scripts,
+        out,
+        lines,
+    )
 }
 
 fn write_lines(lines: &[u8], at: usize) {
