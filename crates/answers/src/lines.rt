@@ -1,10 +1,10 @@
 // The pieces of a line.
 ghost use Prim.Native.Nat.{_≤_};
 ghost use lib.ListN.{length};
-use crate::calls::front;
 use crate::memory::FILL;
-use crate::memory::FILL_BYTE;
-use text::put;
+use crate::memory::FILL_CELL;
+use crate::memory::part;
+use text::put_byte;
 use text::put_decimal;
 use text::put_hex;
 
@@ -13,7 +13,7 @@ const SHOWN: usize = 65536;
 
 // A number behind a space.
 fn put_word(out: &mut [u8], at: usize, n: u64) -> usize {
-    let to = put(out, at, b" ");
+    let to = put_byte(out, at, b' ');
     put_decimal(out, to, n)
 }
 
@@ -34,7 +34,7 @@ fn put_words(out: &mut [u8], at: usize, words: &[u64]) -> usize {
 }
 
 // A call's number, the number that it answered, and its words.
-pub fn put_answer(out: &mut [u8], at: usize, call: u8, number: u64, words: &[u64]) -> usize {
+pub fn put_answer(out: &mut [u8], at: usize, call: u8, number: u64, words: &[u64; 8]) -> usize {
     let to = put_decimal(out, at, call as u64);
     let to = put_word(out, to, number);
     put_words(out, to, words)
@@ -46,7 +46,7 @@ fn used_cells(table: &[u32]) -> usize
 {
     let mut n = table.len();
     while 0 < n {
-        if table[n - 1] != FILL {
+        if table[n - 1] != FILL_CELL {
             return n;
         }
         n = n - 1;
@@ -59,7 +59,7 @@ fn used_bytes(bytes: &[u8]) -> usize
 {
     let mut n = bytes.len();
     while 0 < n {
-        if bytes[n - 1] != FILL_BYTE {
+        if bytes[n - 1] != FILL {
             return n;
         }
         n = n - 1;
@@ -82,20 +82,26 @@ fn put_cells(out: &mut [u8], at: usize, cells: &[u32]) -> usize {
     to
 }
 
+// A colon behind a space.
+fn put_colon(out: &mut [u8], at: usize) -> usize {
+    let to = put_byte(out, at, b' ');
+    put_byte(out, to, b':')
+}
+
 // The used cells of a table behind a colon.
 pub fn put_table(out: &mut [u8], at: usize, table: &[u32]) -> usize {
     let n = used_cells(table);
-    let to = put(out, at, b" :");
+    let to = put_colon(out, at);
     put_cells(out, to, &table[0..n])
 }
 
 // Bytes behind a colon.
 fn put_run(out: &mut [u8], at: usize, bytes: &[u8]) -> usize {
-    let to = put(out, at, b" :");
+    let to = put_colon(out, at);
     if bytes.len() == 0 {
         return to;
     }
-    let to = put(out, to, b" ");
+    let to = put_byte(out, to, b' ');
     put_hex(out, to, bytes)
 }
 
@@ -106,6 +112,6 @@ pub fn put_bytes(out: &mut [u8], at: usize, memory: &[u8]) -> usize {
 }
 
 // The front of a part.
-pub fn put_part(out: &mut [u8], at: usize, part: &[u8]) -> usize {
-    put_run(out, at, front(part, SHOWN))
+pub fn put_part(out: &mut [u8], at: usize, bytes: &[u8]) -> usize {
+    put_run(out, at, part(bytes, 0, SHOWN))
 }

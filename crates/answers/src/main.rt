@@ -1,498 +1,471 @@
 // Reads records from standard input until it ends. A record lends memory or asks calls, and each call is answered by a line
 // on standard output.
-ghost use Prim.Native.Nat.{_≤_};
-use crate::calls::Call;
-use crate::calls::ask;
-use crate::calls::behind;
-use crate::calls::front;
+use crate::calls::ask_map;
+use crate::calls::parse;
 use crate::calls::part_asked;
 use crate::calls::read_call;
+use crate::calls::set_scripts;
+use crate::calls::write_tx;
 use crate::lines::put_answer;
 use crate::lines::put_bytes;
 use crate::lines::put_part;
 use crate::lines::put_table;
-use crate::memory::lend_bytes;
-use crate::memory::lend_numbers;
-use crate::memory::lend_words;
+use crate::memory::BODY;
+use crate::memory::BUFFER;
+use crate::memory::CALLS;
+use crate::memory::CUT;
+use crate::memory::LIST;
+use crate::memory::Record;
+use crate::memory::cells;
+use crate::memory::number;
+use crate::memory::part;
+use crate::memory::read_record;
+use crate::memory::size_of;
+use crate::memory::store_cells;
+use crate::memory::store_numbers;
 use text::put;
-use wire::u32_from_le_bytes;
+use text::put_byte;
 
 mod calls;
 mod lines;
 mod memory;
 
-// The kinds of records that lend no memory: calls, the input's end, and a record that is cut.
-const CALLS: u8 = 9;
-
-const OVER: u8 = 10;
-
-const CUT: u8 = 11;
-
-// A record's head. Its body is read beside it.
-struct Record {
-    kind: u8,
-    room: usize,
-    length: usize,
-}
-
-// Where the lines end, where the next call and the last one of the body at hand stand, and whether the run goes on.
+// How far the run is: where the lines end, where the next call of the body at hand begins and where they all end, and how the
+// run ended, 0 where it goes on. How many cells each kind of memory has, and what earlier calls left for later ones.
 struct Stand {
     at: usize,
     next: usize,
     end: usize,
-    going: bool,
+    how: u8,
+    rooms: [usize; 9],
+    report: [u64; 8],
+    set: u64,
+    written: u64,
 }
 
-fn cut(lines: &mut [u8], at: usize) -> Stand {
+fn begin() -> Stand {
     Stand {
-        at: put(lines, at, b"cut\n"),
+        at: 0,
         next: 0,
         end: 0,
-        going: false,
+        how: 0,
+        rooms: [0; 9],
+        report: [0; 8],
+        set: 0,
+        written: 0,
     }
 }
 
-fn nothing(kind: u8) -> Record {
-    Record {
-        kind,
-        room: 0,
-        length: 0,
-    }
+// A file takes all other memory back.
+fn taken_back(stand: Stand) -> Stand {
+    let mut s = begin();
+    s.at = stand.at;
+    s
 }
 
-// The little-endian number of four bytes from `at` on.
-fn word(s: &[u8], at: usize) -> usize {
-    u32_from_le_bytes(behind(s, at)) as usize
-}
-
-// Reads as much of a body as the buffer has.
-fn read_body(kind: u8, room: usize, body: &mut [u8]) -> Record {
-    if io::read_full(0, body) < body.len() {
-        return nothing(CUT);
-    }
-    Record {
-        kind,
-        room,
-        length: body.len(),
-    }
-}
-
-// Reads one record.
-fn read_record(body: &mut [u8]) -> Record {
-    let mut head = [0u8; 9];
-    let got = io::read_full(0, &mut head);
-    if got == 0 {
-        return nothing(OVER);
-    }
-    if got < 9 {
-        return nothing(CUT);
-    }
-    let length = word(&head, 5);
-    if CALLS < head[0] {
-        return nothing(CUT);
-    }
-    if body.len() < length {
-        return nothing(CUT);
-    }
-    read_body(head[0], word(&head, 1), &mut body[0..length])
-}
-
-// Lends memory of its kind, where the body fits it.
-fn lend(
-    kind: u8,
-    room: usize,
-    body: &[u8],
-    file: &mut [u8; 1048577],
-    pairs: &mut [u32; 32768],
-    maps: &mut [u32; 4096],
-    report: &mut [u64; 8],
-    list: &mut [u64; 1542],
-    buffer: &mut [u8; 131072],
-    scripts: &mut [u8; 17920],
-    out: &mut [u8; 65536],
-    state: &mut [u64; 2],
-) -> bool {
-    match kind {
-        0 => lend_bytes(file, room, body),
-        1 => lend_words(pairs, room, body),
-        2 => lend_words(maps, room, body),
-        3 => lend_numbers(report, room, body),
-        4 => lend_numbers(list, room, body),
-        5 => lend_bytes(buffer, room, body),
-        6 => lend_bytes(scripts, room, body),
-        7 => lend_bytes(out, room, body),
-        8 => lend_numbers(state, room, body),
-        _ => false,
-    }
-}
-
-// The same and how many cells each memory has then. A file takes all other memory back.
-fn lend_room(
-    record: Record,
-    body: &[u8],
-    rooms: &mut [usize; 9],
-    file: &mut [u8; 1048577],
-    pairs: &mut [u32; 32768],
-    maps: &mut [u32; 4096],
-    report: &mut [u64; 8],
-    list: &mut [u64; 1542],
-    buffer: &mut [u8; 131072],
-    scripts: &mut [u8; 17920],
-    out: &mut [u8; 65536],
-    state: &mut [u64; 2],
-) -> bool {
-    let k = record.kind as usize;
-    if k == 0 {
-        *rooms = [0; 9];
-        *report = [0; 8];
-        *state = [0; 2];
-    }
+// So many cells of a kind are lent.
+fn lent(stand: Stand, kind: u8, room: usize) -> Stand {
+    let mut s = stand;
+    let mut rooms = stand.rooms;
+    let k = kind as usize;
     if k < 9 {
-        rooms[k] = record.room;
+        rooms[k] = room;
     }
-    lend(
-        record.kind,
-        record.room,
-        front(body, record.length),
-        file,
-        pairs,
-        maps,
-        report,
-        list,
-        buffer,
-        scripts,
-        out,
-        state,
-    )
+    s.rooms = rooms;
+    s
 }
 
-// Keeps what an accepted call reports for the calls behind it.
-fn keep(call: u8, number: u64, answer: &[u64; 8], report: &mut [u64; 8], state: &mut [u64; 2]) {
-    if number != 0 {
-        return;
+// A report is lent.
+fn reported(stand: Stand, body: &[u8]) -> Stand {
+    let mut s = stand;
+    let mut report = [0u64; 8];
+    store_numbers(&mut report, body);
+    s.report = report;
+    s
+}
+
+// What a record changes: its calls come next, the run ends, or memory is lent.
+fn after(stand: Stand, record: Record, body: &[u8]) -> Stand {
+    let mut s = stand;
+    let kind = record.kind;
+    match kind {
+        0 => lent(taken_back(stand), kind, record.room),
+        1 | 2 | 4 | 5 | 6 | 7 => lent(stand, kind, record.room),
+        3 => reported(stand, body),
+        8 => {
+            s.set = number(body, 0);
+            s.written = number(body, 1);
+            s
+        }
+        CALLS => {
+            s.next = 0;
+            s.end = record.size;
+            s
+        }
+        _ => {
+            s.how = kind;
+            s
+        }
     }
-    match call {
-        0 => {
-            *report = *answer;
+}
+
+// Stores what calls write.
+fn store(
+    kind: u8,
+    body: &[u8],
+    pairs: &mut [u32; 32768],
+    maps: &mut [u32; 4096],
+    scripts: &mut [u8; 17920],
+    out: &mut [u8; 65536],
+) {
+    match kind {
+        1 => store_cells(pairs, body),
+        2 => store_cells(maps, body),
+        6 => {
+            put(scripts, 0, body);
         }
-        2 | 54 => {
-            *state = [answer[1], answer[2]];
-        }
-        3 => {
-            *state = [answer[2], answer[3]];
+        7 => {
+            put(out, 0, body);
         }
         _ => {}
     }
 }
 
-// The memory that a call may write, or the part that it hands back.
-fn put_memory<'a>(
-    call: Call,
-    file: &'a [u8],
-    pairs: &[u32],
-    maps: &[u32],
-    report: &[u64; 8],
-    buffer: &[u8],
-    state: [u64; 2],
-    scripts: &'a [u8],
-    out: &[u8],
-    lines: &mut [u8],
-    at: usize,
-) -> usize {
-    let number = call.number;
-    let args = call.args;
-    match number {
-        0 => {
-            let to = put_table(lines, at, pairs);
-            put_table(lines, to, maps)
-        }
-        2 | 54 => put_bytes(lines, at, scripts),
-        3 => put_bytes(lines, at, out),
-        49..=53 => put_part(
-            lines,
-            at,
-            part_asked(
-                number,
-                file,
-                pairs,
-                maps,
-                report,
-                buffer,
-                state,
-                scripts,
-                args,
-            ),
-        ),
-        _ => at,
-    }
+// Reads a record, and lends the memory that it has.
+fn next_record(
+    stand: Stand,
+    texts: &mut [u8; 2240562],
+    pairs: &mut [u32; 32768],
+    maps: &mut [u32; 4096],
+    scripts: &mut [u8; 17920],
+    out: &mut [u8; 65536],
+) -> Stand {
+    let record = read_record(texts);
+    let body = part(texts, BODY, record.size);
+    store(record.kind, body, pairs, maps, scripts, out);
+    after(stand, record, body)
 }
 
-// The line of a call that was asked.
-fn put_line<'a>(
-    call: Call,
-    answer: u64,
-    words: &[u64; 8],
-    file: &'a [u8],
+// A line of so many bytes is put. An accepted parse leaves its report, an accepted setter or transaction its state.
+fn put_to(stand: Stand, at: usize) -> Stand {
+    let mut s = stand;
+    s.at = at;
+    s
+}
+
+fn parsed(stand: Stand, at: usize, answer: u64, words: [u64; 8]) -> Stand {
+    let mut s = put_to(stand, at);
+    if answer == 0 {
+        s.report = words;
+    }
+    s
+}
+
+fn went(stand: Stand, at: usize, answer: u64, set: u64, written: u64) -> Stand {
+    let mut s = put_to(stand, at);
+    if answer == 0 {
+        s.set = set;
+        s.written = written;
+    }
+    s
+}
+
+// The line of a parse.
+fn answer_parse(
+    stand: Stand,
+    file: &[u8],
+    pairs: &mut [u32; 32768],
+    maps: &mut [u32; 4096],
+    lines: &mut [u8; 524288],
+) -> Stand {
+    let rooms = stand.rooms;
+    let mut words = [0u64; 8];
+    let answer = parse(file, pairs, rooms[1], maps, rooms[2], &mut words);
+    let to = put_answer(lines, stand.at, 0, answer, &words);
+    let to = put_table(lines, to, cells(pairs, rooms[1]));
+    let to = put_table(lines, to, cells(maps, rooms[2]));
+    parsed(stand, to, answer, words)
+}
+
+// The line of either setter.
+fn answer_set(
+    stand: Stand,
+    call: u8,
+    texts: &[u8],
+    file: &[u8],
     pairs: &[u32],
     maps: &[u32],
-    report: &[u64; 8],
-    buffer: &[u8],
-    state: [u64; 2],
-    scripts: &'a [u8],
-    out: &[u8],
-    lines: &mut [u8],
-    at: usize,
-) -> usize {
-    let to = put_answer(lines, at, call.number, answer, words);
-    let to = put_memory(
+    scripts: &mut [u8; 17920],
+    lines: &mut [u8; 524288],
+) -> Stand {
+    let rooms = stand.rooms;
+    let list = part(texts, LIST, size_of(8, rooms[4]));
+    let buffer = part(texts, BUFFER, rooms[5]);
+    let report = stand.report;
+    let mut words = [0u64; 8];
+    let answer = set_scripts(
         call,
         file,
         pairs,
         maps,
-        report,
+        &report,
+        list,
         buffer,
-        state,
+        stand.set,
+        stand.written,
         scripts,
-        out,
-        lines,
-        to,
+        rooms[6],
+        &mut words,
     );
-    put(lines, to, b"\n")
+    let to = put_answer(lines, stand.at, call, answer, &words);
+    let to = put_bytes(lines, to, part(scripts, 0, rooms[6]));
+    went(stand, to, answer, words[1], words[2])
 }
 
-// Asks a call and puts its line.
-fn answer(
-    call: Call,
+// The line of a transaction.
+fn answer_tx(
+    stand: Stand,
     file: &[u8],
-    pairs: &mut [u32],
-    maps: &mut [u32],
-    report: &mut [u64; 8],
-    list: &[u64],
-    buffer: &[u8],
-    state: &mut [u64; 2],
-    scripts: &mut [u8],
-    out: &mut [u8],
-    lines: &mut [u8],
-    at: usize,
-) -> usize {
+    pairs: &[u32],
+    maps: &[u32],
+    scripts: &[u8],
+    out: &mut [u8; 65536],
+    lines: &mut [u8; 524288],
+) -> Stand {
+    let rooms = stand.rooms;
+    let report = stand.report;
     let mut words = [0u64; 8];
-    let n = call.number;
-    let args = call.args;
-    let number = ask(
-        n,
+    let answer = write_tx(
         file,
         pairs,
         maps,
-        report,
-        list,
-        buffer,
-        *state,
+        &report,
+        stand.set,
+        stand.written,
         scripts,
         out,
+        rooms[7],
+        &mut words,
+    );
+    let to = put_answer(lines, stand.at, 3, answer, &words);
+    let to = put_bytes(lines, to, part(out, 0, rooms[7]));
+    went(stand, to, answer, words[2], words[3])
+}
+
+// The calls that hand back a part.
+fn has_part(call: u8) -> bool {
+    match call {
+        49..=53 => true,
+        _ => false,
+    }
+}
+
+// The line of any other call.
+fn answer_look<'a>(
+    stand: Stand,
+    call: u8,
+    args: &[u64; 8],
+    file: &'a [u8],
+    pairs: &[u32],
+    maps: &[u32],
+    buffer: &[u8],
+    scripts: &'a [u8],
+    lines: &mut [u8; 524288],
+) -> Stand {
+    let set = stand.set;
+    let written = stand.written;
+    let report = stand.report;
+    let mut words = [0u64; 8];
+    let answer = ask_map(
+        call,
+        file,
+        pairs,
+        maps,
+        &report,
+        buffer,
+        set,
+        written,
+        scripts,
         args,
         &mut words,
     );
-    keep(n, number, &words, report, state);
-    put_line(
-        call,
-        number,
-        &words,
-        file,
-        pairs,
-        maps,
-        report,
-        buffer,
-        *state,
-        scripts,
-        out,
-        lines,
-        at,
-    )
-}
-
-// The smaller of two numbers.
-fn least(a: usize, b: usize) -> usize
-    ensures { λ r. ⌜ r ≤ b ⌝ }
-{
-    if a < b { a } else { b }
-}
-
-// The same in the memory that is lent.
-fn answer_lent(
-    call: Call,
-    rooms: [usize; 9],
-    file: &[u8],
-    pairs: &mut [u32],
-    maps: &mut [u32],
-    report: &mut [u64; 8],
-    list: &[u64],
-    buffer: &[u8],
-    state: &mut [u64; 2],
-    scripts: &mut [u8],
-    out: &mut [u8],
-    lines: &mut [u8],
-    at: usize,
-) -> usize {
-    let p = least(rooms[1], pairs.len());
-    let m = least(rooms[2], maps.len());
-    let l = least(rooms[4], list.len());
-    let s = least(rooms[6], scripts.len());
-    let o = least(rooms[7], out.len());
-    answer(
-        call,
-        front(file, rooms[0]),
-        &mut pairs[0..p],
-        &mut maps[0..m],
-        report,
-        &list[0..l],
-        front(buffer, rooms[5]),
-        state,
-        &mut scripts[0..s],
-        &mut out[0..o],
-        lines,
-        at,
-    )
-}
-
-fn write_lines(lines: &[u8], at: usize) {
-    io::write_all(1, front(lines, at));
-}
-
-// Writes the lines once they fill an eighth of the buffer: any one line fits the rest.
-fn write_many(lines: &[u8], at: usize) -> usize {
-    if at < lines.len() / 8 {
-        return at;
+    let to = put_answer(lines, stand.at, call, answer, &words);
+    if has_part(call) {
+        let bytes = part_asked(
+            call,
+            file,
+            pairs,
+            maps,
+            &report,
+            buffer,
+            set,
+            written,
+            scripts,
+            args,
+        );
+        return put_to(stand, put_part(lines, to, bytes));
     }
-    write_lines(lines, at);
-    0
+    put_to(stand, to)
 }
 
-// Answers the next call of the body at hand, or reads the next record.
-fn turn(
+// The line of a call over tables that are left or lent.
+fn answer_over(
     stand: Stand,
-    body: &mut [u8; 1048577],
-    rooms: &mut [usize; 9],
-    file: &mut [u8; 1048577],
-    pairs: &mut [u32; 32768],
-    maps: &mut [u32; 4096],
-    report: &mut [u64; 8],
-    list: &mut [u64; 1542],
-    buffer: &mut [u8; 131072],
-    state: &mut [u64; 2],
+    call: u8,
+    args: &[u64; 8],
+    texts: &[u8],
+    file: &[u8],
+    pairs: &[u32],
+    maps: &[u32],
     scripts: &mut [u8; 17920],
     out: &mut [u8; 65536],
     lines: &mut [u8; 524288],
 ) -> Stand {
-    let at = stand.at;
-    if stand.next < stand.end {
-        let call = read_call(front(body, stand.end), stand.next);
-        if call.next == 0 {
-            return cut(lines, at);
-        }
-        let to = answer_lent(
-            call,
-            *rooms,
+    let rooms = stand.rooms;
+    match call {
+        2 | 54 => answer_set(stand, call, texts, file, pairs, maps, scripts, lines),
+        3 => answer_tx(
+            stand,
             file,
             pairs,
             maps,
-            report,
-            list,
-            buffer,
-            state,
-            scripts,
+            part(scripts, 0, rooms[6]),
             out,
             lines,
-            at,
-        );
-        return Stand {
-            at: write_many(lines, to),
-            next: call.next,
-            end: stand.end,
-            going: true,
-        };
+        ),
+        _ => answer_look(
+            stand,
+            call,
+            args,
+            file,
+            pairs,
+            maps,
+            part(texts, BUFFER, rooms[5]),
+            part(scripts, 0, rooms[6]),
+            lines,
+        ),
     }
-    let record = read_record(body);
-    if record.kind == OVER {
-        return Stand {
-            at,
-            next: 0,
-            end: 0,
-            going: false,
-        };
+}
+
+// The line of any call.
+fn answer(
+    stand: Stand,
+    call: u8,
+    args: &[u64; 8],
+    texts: &[u8],
+    pairs: &mut [u32; 32768],
+    maps: &mut [u32; 4096],
+    scripts: &mut [u8; 17920],
+    out: &mut [u8; 65536],
+    lines: &mut [u8; 524288],
+) -> Stand {
+    let rooms = stand.rooms;
+    let file = part(texts, 0, rooms[0]);
+    if call == 0 {
+        return answer_parse(stand, file, pairs, maps, lines);
     }
-    if record.kind == CALLS {
-        return Stand {
-            at,
-            next: 0,
-            end: record.length,
-            going: true,
-        };
-    }
-    if lend_room(
-        record,
-        body,
-        rooms,
+    answer_over(
+        stand,
+        call,
+        args,
+        texts,
         file,
-        pairs,
-        maps,
-        report,
-        list,
-        buffer,
+        cells(pairs, rooms[1]),
+        cells(maps, rooms[2]),
         scripts,
         out,
-        state,
-    ) {
-        return Stand {
-            at,
-            next: 0,
-            end: 0,
-            going: true,
-        };
+        lines,
+    )
+}
+
+fn write_lines(lines: &[u8], at: usize) {
+    io::write_all(1, part(lines, 0, at));
+}
+
+// Ends a line, and writes the lines once they fill an eighth of the buffer: any one line fits the rest.
+fn end_line(lines: &mut [u8], at: usize) -> usize {
+    let to = put_byte(lines, at, b'\n');
+    if to < lines.len() / 8 {
+        return to;
     }
-    cut(lines, at)
+    write_lines(lines, to);
+    0
+}
+
+// Answers the next call of the body at hand.
+fn next_call(
+    stand: Stand,
+    texts: &[u8],
+    pairs: &mut [u32; 32768],
+    maps: &mut [u32; 4096],
+    scripts: &mut [u8; 17920],
+    out: &mut [u8; 65536],
+    lines: &mut [u8; 524288],
+) -> Stand {
+    let mut s = stand;
+    let mut args = [0u64; 8];
+    let call = read_call(part(texts, BODY, stand.end), stand.next, &mut args);
+    if call.next == 0 {
+        s.how = CUT;
+        return s;
+    }
+    s.next = call.next;
+    let done = answer(
+        s,
+        call.number,
+        &args,
+        texts,
+        pairs,
+        maps,
+        scripts,
+        out,
+        lines,
+    );
+    put_to(done, end_line(lines, done.at))
+}
+
+// Answers a call, or reads a record.
+fn turn(
+    stand: Stand,
+    texts: &mut [u8; 2240562],
+    pairs: &mut [u32; 32768],
+    maps: &mut [u32; 4096],
+    scripts: &mut [u8; 17920],
+    out: &mut [u8; 65536],
+    lines: &mut [u8; 524288],
+) -> Stand {
+    if stand.next < stand.end {
+        return next_call(stand, texts, pairs, maps, scripts, out, lines);
+    }
+    next_record(stand, texts, pairs, maps, scripts, out)
+}
+
+// Writes the last lines.
+fn finish(lines: &mut [u8], at: usize, how: u8) {
+    if how == CUT {
+        let to = put(lines, at, b"cut\n");
+        write_lines(lines, to);
+        return;
+    }
+    write_lines(lines, at);
 }
 
 // A proved loop has to end, and nothing says that the input does: so it counts its turns down, from a number that no
 // run uses up.
 fn run(
-    body: &mut [u8; 1048577],
-    rooms: &mut [usize; 9],
-    file: &mut [u8; 1048577],
+    texts: &mut [u8; 2240562],
     pairs: &mut [u32; 32768],
     maps: &mut [u32; 4096],
-    report: &mut [u64; 8],
-    list: &mut [u64; 1542],
-    buffer: &mut [u8; 131072],
-    state: &mut [u64; 2],
     scripts: &mut [u8; 17920],
     out: &mut [u8; 65536],
     lines: &mut [u8; 524288],
 ) {
-    let mut stand = Stand {
-        at: 0,
-        next: 0,
-        end: 0,
-        going: true,
-    };
+    let mut stand = begin();
     let mut turns = u64::MAX;
     while 0 < turns {
-        stand = turn(
-            stand,
-            body,
-            rooms,
-            file,
-            pairs,
-            maps,
-            report,
-            list,
-            buffer,
-            state,
-            scripts,
-            out,
-            lines,
-        );
-        if !stand.going {
-            write_lines(lines, stand.at);
+        stand = turn(stand, texts, pairs, maps, scripts, out, lines);
+        if stand.how != 0 {
+            finish(lines, stand.at, stand.how);
             return;
         }
         turns = turns - 1;
@@ -500,28 +473,16 @@ fn run(
 }
 
 fn main() {
-    let mut body = [0u8; 1048577];
-    let mut rooms = [0usize; 9];
-    let mut file = [0u8; 1048577];
+    let mut texts = [0u8; 2240562];
     let mut pairs = [0u32; 32768];
     let mut maps = [0u32; 4096];
-    let mut report = [0u64; 8];
-    let mut list = [0u64; 1542];
-    let mut buffer = [0u8; 131072];
-    let mut state = [0u64; 2];
     let mut scripts = [0u8; 17920];
     let mut out = [0u8; 65536];
     let mut lines = [0u8; 524288];
     run(
-        &mut body,
-        &mut rooms,
-        &mut file,
+        &mut texts,
         &mut pairs,
         &mut maps,
-        &mut report,
-        &mut list,
-        &mut buffer,
-        &mut state,
         &mut scripts,
         &mut out,
         &mut lines,

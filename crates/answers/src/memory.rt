@@ -1,86 +1,209 @@
-// Memory that is lent: filled, and then the cells of a record's body stored from its front on.
-use crate::calls::behind;
+// Memory that records lend. What calls only read stands in one array, its texts: the file, the buffer, the list and the body of
+// the record at hand, one behind the other. What calls write has an array each.
+use format::Looked;
+use lookup::part_of;
 use wire::u32_from_le_bytes;
 use wire::u64_from_le_bytes;
+ghost use Prim.Native.Nat.{_≤_};
 
-// What a cell is that nothing was stored in.
-pub const FILL_BYTE: u8 = 0xa5;
+// What a byte is that nothing was stored in, and a cell of four.
+pub const FILL: u8 = 0xa5;
 
-pub const FILL: u32 = 0xa5a5_a5a5;
+pub const FILL_CELL: u32 = 0xa5a5_a5a5;
 
-const FILL_NUMBER: u64 = 0xa5a5_a5a5_a5a5_a5a5;
+// Where the parts of the texts begin. The file is the first.
+pub const BUFFER: usize = 1048577;
 
-// Cell number `i`.
-fn byte(body: &[u8], i: usize) -> u8 {
-    if i < body.len() { body[i] } else { FILL_BYTE }
+pub const LIST: usize = 1179649;
+
+pub const BODY: usize = 1191985;
+
+// The kind of a record whose body is calls; behind it, what stands for the input's end and for a record that is cut.
+pub const CALLS: u8 = 9;
+
+pub const OVER: u8 = 10;
+
+pub const CUT: u8 = 11;
+
+// Where the body of a record is read to, how many bytes a cell of its memory has, and how many cells there are at most.
+struct Memory {
+    from: usize,
+    each: usize,
+    most: usize,
 }
 
-fn cell(body: &[u8], i: usize) -> u32 {
-    if i < body.len() / 4 {
-        u32_from_le_bytes(behind(body, i * 4))
-    } else {
-        FILL
+// A record: its kind, how many cells it lends, and how many bytes these are.
+pub struct Record {
+    pub kind: u8,
+    pub room: usize,
+    pub size: usize,
+}
+
+// The smaller of two numbers.
+pub fn least(a: usize, b: usize) -> usize
+    ensures { λ r. ⌜ r ≤ b ⌝ }
+{
+    if a < b { a } else { b }
+}
+
+// `len` bytes from `start` on, as many as there are.
+pub fn part(s: &[u8], start: usize, len: usize) -> &[u8] {
+    part_of(s, Looked::At { start, len })
+}
+
+// The first `n` cells, as many as there are.
+pub fn cells(table: &[u32], n: usize) -> &[u32] {
+    let end = least(n, table.len());
+    &table[0..end]
+}
+
+fn held(from: usize, each: usize, most: usize) -> Memory {
+    Memory { from, each, most }
+}
+
+// The memory of a kind of record.
+fn memory_of(kind: u8) -> Memory {
+    match kind {
+        0 => held(0, 1, 1048577),
+        1 => held(BODY, 4, 32768),
+        2 => held(BODY, 4, 4096),
+        3 => held(BODY, 8, 8),
+        4 => held(LIST, 8, 1542),
+        5 => held(BUFFER, 1, 131072),
+        6 => held(BODY, 1, 17920),
+        7 => held(BODY, 1, 65536),
+        8 => held(BODY, 8, 2),
+        _ => held(BODY, 1, 1048577),
     }
 }
 
-// A number that has no room is 0.
-fn number(body: &[u8], room: usize, i: usize) -> u64 {
-    if i < body.len() / 8 {
-        return u64_from_le_bytes(behind(body, i * 8));
+// How many bytes so many cells take; no memory of wider cells has 65,536.
+pub fn size_of(each: usize, room: usize) -> usize {
+    if each == 1 {
+        return room;
     }
-    if i < room { FILL_NUMBER } else { 0 }
+    if 65536 <= room {
+        return 0;
+    }
+    if each == 4 { room * 4 } else { room * 8 }
 }
 
-// So many cells with nothing left over fit the room, and that a memory's size.
-fn fits(cells: usize, left: usize, room: usize, size: usize) -> bool {
-    if left != 0 {
+// So many bytes are whole cells.
+fn is_whole(each: usize, length: usize) -> bool {
+    match each {
+        1 => true,
+        4 => length % 4 == 0,
+        _ => length % 8 == 0,
+    }
+}
+
+// A body of that length fits the room, and that the memory.
+fn fits(m: Memory, room: usize, length: usize) -> bool {
+    if m.most < room {
         return false;
     }
-    if room < cells {
+    if size_of(m.each, room) < length {
         return false;
     }
-    room <= size
+    is_whole(m.each, length)
 }
 
-// Lends `room` cells, where the body fits them.
-pub fn lend_bytes(memory: &mut [u8], room: usize, body: &[u8]) -> bool {
-    if !fits(body.len(), 0, room, memory.len()) {
-        return false;
-    }
-    let mut i: usize = 0;
-    while i < memory.len() {
-        if i == room {
-            return true;
+// The little-endian number of four bytes from `at` on.
+fn word(s: &[u8], at: usize) -> usize {
+    u32_from_le_bytes(part(s, at, 4)) as usize
+}
+
+// Fills the bytes from `from` on, before `end`.
+fn fill(texts: &mut [u8], from: usize, end: usize) {
+    let mut i = from;
+    while i < texts.len() {
+        if end <= i {
+            return;
         }
-        memory[i] = byte(body, i);
+        texts[i] = FILL;
         i = i + 1;
     }
-    true
 }
 
-pub fn lend_words(memory: &mut [u32], room: usize, body: &[u8]) -> bool {
-    if !fits(body.len() / 4, body.len() % 4, room, memory.len()) {
+// Reads `length` bytes to `from`, and fills the bytes behind them up to `size`.
+fn read_part(texts: &mut [u8], from: usize, length: usize, size: usize) -> bool {
+    if texts.len() < from {
         return false;
     }
+    if texts.len() - from < length {
+        return false;
+    }
+    if texts.len() - from < size {
+        return false;
+    }
+    fill(texts, from, from + size);
+    io::read_full(0, &mut texts[from..from + length]) == length
+}
+
+fn nothing(kind: u8) -> Record {
+    Record {
+        kind,
+        room: 0,
+        size: 0,
+    }
+}
+
+// Reads a body.
+fn read_body(texts: &mut [u8], kind: u8, room: usize, length: usize) -> Record {
+    let m = memory_of(kind);
+    if !fits(m, room, length) {
+        return nothing(CUT);
+    }
+    let size = size_of(m.each, room);
+    if !read_part(texts, m.from, length, size) {
+        return nothing(CUT);
+    }
+    Record { kind, room, size }
+}
+
+// Reads one record. The room of calls is their length.
+pub fn read_record(texts: &mut [u8]) -> Record {
+    let mut head = [0u8; 9];
+    let got = io::read_full(0, &mut head);
+    if got == 0 {
+        return nothing(OVER);
+    }
+    if got < 9 {
+        return nothing(CUT);
+    }
+    let kind = head[0];
+    let length = word(&head, 5);
+    if CALLS < kind {
+        return nothing(CUT);
+    }
+    if kind == CALLS {
+        return read_body(texts, kind, length, length);
+    }
+    read_body(texts, kind, word(&head, 1), length)
+}
+
+// Stores as many cells as the bytes have.
+pub fn store_cells(table: &mut [u32], bytes: &[u8]) {
     let mut i: usize = 0;
-    while i < memory.len() {
-        if i == room {
-            return true;
+    while i < table.len() {
+        if bytes.len() / 4 <= i {
+            return;
         }
-        memory[i] = cell(body, i);
+        table[i] = u32_from_le_bytes(part(bytes, i * 4, 4));
         i = i + 1;
     }
-    true
 }
 
-pub fn lend_numbers(memory: &mut [u64], room: usize, body: &[u8]) -> bool {
-    if !fits(body.len() / 8, body.len() % 8, room, memory.len()) {
-        return false;
-    }
+// Number `i` of the bytes, 0 past their end.
+pub fn number(bytes: &[u8], i: usize) -> u64 {
+    u64_from_le_bytes(part(bytes, size_of(8, i), 8))
+}
+
+// Stores numbers, 0 where the bytes have ended.
+pub fn store_numbers(list: &mut [u64], bytes: &[u8]) {
     let mut i: usize = 0;
-    while i < memory.len() {
-        memory[i] = number(body, room, i);
+    while i < list.len() {
+        list[i] = number(bytes, i);
         i = i + 1;
     }
-    true
 }

@@ -4,12 +4,10 @@ use Rattle.answers.proofs.run.Statement.{statement}
 use Rattle.answers.proofs.run.Tie as tie
 
 abbrev Inv-loop : tie.InvT-loop
-Inv-loop body₀ rooms₀ file₀ pairs₀ maps₀ report₀ list₀ buffer₀ state₀ scripts₀ out₀ lines₀ stand₀ turns₀ body rooms file pairs maps report list buffer state scripts out lines stand turns =
-    Unit {0}
+Inv-loop texts₀ pairs₀ maps₀ scripts₀ out₀ lines₀ stand₀ turns₀ texts pairs maps scripts out lines stand turns = Unit {0}
 
 abbrev μ-loop : tie.MeasureT-loop
-μ-loop body₀ rooms₀ file₀ pairs₀ maps₀ report₀ list₀ buffer₀ state₀ scripts₀ out₀ lines₀ stand₀ turns₀ body rooms file pairs maps report list buffer state scripts out lines stand turns =
-    turns
+μ-loop texts₀ pairs₀ maps₀ scripts₀ out₀ lines₀ stand₀ turns₀ texts pairs maps scripts out lines stand turns = turns
 
 -- needs: needs
 pub run-spec : {M : Type 1} → statement M
@@ -18,6 +16,7 @@ run-spec =
     (tie.spec
     Inv-loop
     μ-loop
+    (λ c κs. search (needs))
     (λ c. search (needs))
     (λ c κs. search (needs))
     (λ c κs. search (needs))
