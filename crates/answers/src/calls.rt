@@ -42,11 +42,12 @@ fn read_args(body: &[u8], at: usize, count: usize, args: &mut [u64; 8]) -> usize
     to
 }
 
+// A count.
 fn size(x: u8) -> usize {
     x as usize
 }
 
-// A call that begins with so many bytes, whose arguments end at `next`.
+// A call whose arguments end at `next`: none, where its number is unknown or it has too many.
 fn known(number: u8, count: usize, next: usize) -> Call {
     if CALLS <= number {
         return Call { number, next: 0 };

@@ -67,6 +67,7 @@ fn used_bytes(bytes: &[u8]) -> usize
     0
 }
 
+// A cell as a number.
 fn wide(x: u32) -> u64 {
     x as u64
 }

@@ -43,6 +43,7 @@ struct Stand {
     written: u64,
 }
 
+// Nothing is read, lent or put.
 fn begin() -> Stand {
     Stand {
         at: 0,
@@ -146,7 +147,7 @@ fn next_record(
     after(stand, record, body)
 }
 
-// A line of so many bytes is put. An accepted parse leaves its report, an accepted setter or transaction its state.
+// The lines end there. Besides, an accepted parse leaves its report, and an accepted setter or transaction its state.
 fn put_to(stand: Stand, at: usize) -> Stand {
     let mut s = stand;
     s.at = at;
@@ -378,6 +379,7 @@ fn answer(
     )
 }
 
+// Writes the lines.
 fn write_lines(lines: &[u8], at: usize) {
     io::write_all(1, part(lines, 0, at));
 }
@@ -472,6 +474,7 @@ fn run(
     }
 }
 
+// All memory is empty first.
 fn main() {
     let mut texts = [0u8; 2240562];
     let mut pairs = [0u32; 32768];

@@ -57,6 +57,7 @@ pub fn cells(table: &[u32], n: usize) -> &[u32] {
     &table[0..end]
 }
 
+// A memory from its numbers.
 fn held(from: usize, each: usize, most: usize) -> Memory {
     Memory { from, each, most }
 }
@@ -140,6 +141,7 @@ fn read_part(texts: &mut [u8], from: usize, length: usize, size: usize) -> bool 
     io::read_full(0, &mut texts[from..from + length]) == length
 }
 
+// A record that is none.
 fn nothing(kind: u8) -> Record {
     Record {
         kind,
