@@ -20,6 +20,7 @@ abbrev joined : List (List ℕ) → List ℕ
 joined [] = []
 joined (t ∷ ts) = t ++ (10 ∷ joined ts)
 
+-- the line with a refusal's number is what it means
 in-lines : (e : PsbtError) → line (numberOf e) (joined meanings) ≡ meaning e
 unfolding line front rest behind meaning numberOf
 in-lines InvalidMagic = refl
@@ -48,7 +49,7 @@ in-lines MapsFull = refl
 in-lines BadIndex = refl
 in-lines NoRoom = refl
 
--- what is put of the line with a refusal's number is what it means
+-- so what is put of that line is what the refusal means
 pub meaning-by : (s t : Spot) (e : PsbtError) (n : ℕ) (b : List ℕ) → n ≡ numberOf e → b ≡ line n (joined meanings) → t ≡ lay s b → t ≡ lay s (meaning e)
 meaning-by s t e n b q l h = h ∙ ap (lay s) (l ∙ ap (λ (m : ℕ). line m (joined meanings)) q ∙ in-lines e)
 
