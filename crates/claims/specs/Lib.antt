@@ -3,4 +3,3 @@ pub mod Asked
 pub mod Newer
 pub mod Calls
 pub mod Examples
-pub mod Outcomes

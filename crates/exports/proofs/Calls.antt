@@ -1,5 +1,5 @@
 -- Laws of exported calls: what the call below tells, put into the slice, is what the exported one promises.
-use mathlib.Core.Path.{_≡_, sym, _∙_, ap, ap₂}
+use mathlib.Core.Path.{_≡_, _∙_, ap, ap₂}
 use mathlib.Core.List.{List}
 use Prim.Native.Nat.{ℕ, _≤_, _<_}
 use borrow.Author.Tests.{le-leb, lt-leb}
@@ -45,13 +45,3 @@ module _ (A P M : List ℕ) (d : ToldParse) where
   parse-by h t Q N x q e = rw (le-leb 8 (length A) h) (ap (λ (y : Export). leavesBoth y Q N) e ∙ ap (parseLeft A) q)
 
 pub ruleset parses = (parse-short, parse-by)
-
--- any two outcomes that meet an exported call's promise agree: number, slice, and lent memory
-pub one-asked : (d : Export) (a b : ℕ) (A B : List ℕ) → exported a A ≡ d → exported b B ≡ d → (a ≡ b) × (A ≡ B)
-one-asked d a b A B p q = let e : exported a A ≡ exported b B = p ∙ sym q in ((cc), (cc))
-
-pub one-out : (d : ExportWith) (a b : ℕ) (A B C D : List ℕ) → leaves (exported a A) C ≡ d → leaves (exported b B) D ≡ d → (a ≡ b) × (A ≡ B) × (C ≡ D)
-one-out d a b A B C D p q = let e : leaves (exported a A) C ≡ leaves (exported b B) D = p ∙ sym q in ((cc), (cc), (cc))
-
-pub one-parse : (d : ExportWithBoth) (a b : ℕ) (A B P Q M N : List ℕ) → leavesBoth (exported a A) P M ≡ d → leavesBoth (exported b B) Q N ≡ d → (a ≡ b) × (A ≡ B) × (P ≡ Q) × (M ≡ N)
-one-parse d a b A B P Q M N p q = let e : leavesBoth (exported a A) P M ≡ leavesBoth (exported b B) Q N = p ∙ sym q in ((cc), (cc), (cc), (cc))

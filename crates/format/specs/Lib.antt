@@ -15,4 +15,5 @@ pub mod Locks
 pub mod Scripts
 pub mod Transaction
 pub mod Told
+pub mod Outcomes
 pub mod Examples
