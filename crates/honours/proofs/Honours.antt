@@ -49,10 +49,11 @@ never-misfit misfit (lacks a) q = a
 never-misfit misfit (spells n a) q = a
 never-misfit (is v) d q = never-true q
 
-fields : (n : ℕ) (x : In) → Honours n x → Formed (x .height) × Formed (x .time)
-fields n x (asksNothing a b) = (lacks a, lacks b)
-fields n x (byHeight h a b l m) = (spells h a, lacks b)
-fields n x (byTime t b a l m) = (lacks a, spells t b)
+-- both lock fields of an input that is honoured are such
+both-formed : (n : ℕ) (x : In) → Honours n x → Formed (x .height) × Formed (x .time)
+both-formed n x (asksNothing a b) = (lacks a, lacks b)
+both-formed n x (byHeight h a b l m) = (spells h a, lacks b)
+both-formed n x (byTime t b a l m) = (lacks a, spells t b)
 
 or-left : (a b : Bool) → a ≡ true → (a || b) ≡ true
 or-left true b q = refl
@@ -69,12 +70,14 @@ or-by false b f g q = g q
 -- no lock honours an input with a height or a time of a wrong length
 pub malformed-unhonoured : (n : ℕ) (x : In) → IsMalformed x → Honours n x → ⊥
 malformed-unhonoured n x m h =
-    let d = fields n x h in
+    let d = both-formed n x h in
     or-by (isMisfit (x .height)) (isMisfit (x .time)) (never-misfit (x .height) (d .0)) (never-misfit (x .time) (d .1)) m
 
 -- a lock that meets an input without a field of a wrong length honours it
 pub meets-honours : (n : ℕ) (x : In) → Meets n x → (IsMalformed x → ⊥) → Honours n x
-meets-honours n x m w = by (formed (x .height) (λ q. w (or-left (isMisfit (x .height)) (isMisfit (x .time)) q))) (formed (x .time) (λ q. w (or-right (isMisfit (x .height)) (isMisfit (x .time)) q)))
+meets-honours n x m w =
+    by (formed (x .height) (λ q. w (or-left (isMisfit (x .height)) (isMisfit (x .time)) q)))
+    (formed (x .time) (λ q. w (or-right (isMisfit (x .height)) (isMisfit (x .time)) q)))
   where
     by : Formed (x .height) → Formed (x .time) → Honours n x
     by (lacks a) (lacks b) = asksNothing a b
@@ -82,7 +85,7 @@ meets-honours n x m w = by (formed (x .height) (λ q. w (or-left (isMisfit (x .h
     by (lacks a) (spells t b) = let e = m .time t b in byTime t b a (omega (arith, e .0)) (omega (arith, e .1))
     by (spells h a) (spells t b) = absurd (omega (arith, m .height h a .0, m .time t b .0))
 
--- and one that honours an input meets all that it asks
+-- a field that is not there asks for no number, and one that is there for one
 lacks-none : (f : Sized) → Lacking f → (n : ℕ) → Spells f n → ⊥
 lacks-none missing a n e = e
 lacks-none misfit a n e = e
@@ -93,6 +96,7 @@ one-number missing n m a b = absurd a
 one-number misfit n m a b = absurd a
 one-number (is v) n m a b = sym a ∙ b
 
+-- and a lock that honours an input meets all that it asks
 pub honours-meets : (n : ℕ) (x : In) → Honours n x → Meets n x
 honours-meets n x (asksNothing a b) = record { height = λ h e. absurd (lacks-none (x .height) a h e); time = λ t e. absurd (lacks-none (x .time) b t e) }
 honours-meets n x (byHeight m a b l k) = record {

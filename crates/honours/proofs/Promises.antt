@@ -24,7 +24,7 @@ use Rattle.honours.proofs.Honours.{times-too-small}
 use Rattle.honours.proofs.Calls.{view-bytes, written-is, call-meets, call-honours}
 
 -- an outcome that meets the promise is the definition's
-outcome : (r : UnsignedTx) (B′ : List ℕ) (o : TxOut) → toldLeft (toldTx r) B′ ≡ toldTxOut o → o ≡ txOut r B′
+pub outcome : (r : UnsignedTx) (B′ : List ℕ) (o : TxOut) → toldLeft (toldTx r) B′ ≡ toldTxOut o → o ≡ txOut r B′
 unfolding toldTxOut
 outcome r B′ o p = sym (tx-out-one (txOut r B′) o p)
 
