@@ -181,7 +181,7 @@ module _ (f : List ℕ) (c : Content) (P M : List ℕ) (e : reading f ≡ accept
       let n : 1 + length (c .ins) ≡ suc (length (c .ins)) = omega arith in
       ap₂ reports (ins-are (c .ins) (c .outs)) (ap (λ (k : ℕ). map outOf (drop k (map pairsOf (mapsOf c)))) n ∙ outs-are (c .ins) (c .outs))
 
-  table-reported : reported (view f (pairTable c P) (mapTable c M) (reportOf c)) (reportOf c) ≡ reports (insOf c) (outsOf c)
+  pub table-reported : reported (view f (pairTable c P) (mapTable c M) (reportOf c)) (reportOf c) ≡ reports (insOf c) (outsOf c)
   unfolding reported
   table-reported =
       ap₂ (λ (n k : ℕ). reportedBy n (gather (view f (pairTable c P) (mapTable c M) (reportOf c)) 0 k)) ins-count maps-count
