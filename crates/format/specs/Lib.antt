@@ -15,4 +15,9 @@ pub mod Locks
 pub mod Scripts
 pub mod Transaction
 pub mod Told
-pub mod Examples
+pub mod ExampleFiles
+pub mod Computed
+pub mod ProvedExamples
+pub mod RefusalOrder
+pub mod TablesLeft
+pub mod SizedTypes
