@@ -21,3 +21,8 @@ pub mod ProvedExamples
 pub mod RefusalOrder
 pub mod TablesLeft
 pub mod SizedTypes
+pub mod Rows
+pub mod ExampleMaps
+pub mod FileLengths
+pub mod AnswersTold
+pub mod LocksDecided
