@@ -26,3 +26,4 @@ pub mod ExampleMaps
 pub mod FileLengths
 pub mod AnswersTold
 pub mod LocksDecided
+pub mod ScriptsGiven
