@@ -27,3 +27,5 @@ pub mod FileLengths
 pub mod AnswersTold
 pub mod LocksDecided
 pub mod ScriptsGiven
+pub mod TransactionsWritten
+pub mod OutputScripts
