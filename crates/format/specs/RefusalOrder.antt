@@ -1,36 +1,30 @@
 -- Which refusal comes first, computed: each file read into tables of so many words.
 use Prim.Native.Nat.{ℕ}
-use mathlib.Core.Path.{_≡_, refl}
-use mathlib.Core.List.{List, [], _∷_, _++_, map}
+use mathlib.Core.Path.{refl}
+use mathlib.Core.List.{List, [], _∷_, _++_}
 use lib.ListN.{replicate}
+use Rattle.format.specs.Rows.{Row, is, Hold}
 use Rattle.format.specs.Content.{magic}
 use Rattle.format.specs.Parse.{parsed}
 use Rattle.format.specs.Told.{Told, none, nat, ToldParse, toldWith, toldParse}
 use Rattle.format.specs.ExampleFiles.{txVersion, inputCount, outputCount, modifiableByte, version, end, script, code, label, greatestCount, globals}
 use Rattle.format.specs.Computed.{computes, refusedWith, acceptedWith}
 
--- a file, the words of both tables, and what is told
-pub record Case : Type 0 where
-  pub file : List ℕ
-  pub pairWords : ℕ
-  pub mapWords : ℕ
-  pub tells : Told
-
--- a case
-abbrev case : List ℕ → ℕ → ℕ → Told → Case
-case f p m t = record { file = f; pairWords = p; mapWords = m; tells = t }
-
 -- what is told, without the tables
 unfoldable pub answerOf : ToldParse → Told
 answerOf (toldWith t P M) = t
 
--- what the definition tells
-unfoldable pub answer : Case → Told
-unfolding toldParse answerOf
-answer c = answerOf (toldParse (parsed (c .file) (replicate (c .pairWords) 9) (replicate (c .mapWords) 9)))
+-- what is told of a file that is read into tables of so many words
+unfoldable pub withRoom : ℕ → ℕ → List ℕ → Told
+unfolding computes toldParse answerOf
+withRoom p m f = answerOf (toldParse (parsed f (replicate p 9) (replicate m 9)))
+
+-- a file, the words of the pair table and of the map table, and what is told
+abbrev case : List ℕ → ℕ → ℕ → Told → Row Told
+case f p m t = is (withRoom p m f) t
 
 -- which refusal comes first, each with a smallest file; a room of one entry is 4 words of pairs or 2 of maps
-unfoldable pub orders : List Case
+unfoldable pub orders : List (Row Told)
 orders =
     -- no map entry is free: before the map's first byte, also where there is none; a part of an entry is no room
     case magic 0 0 (refusedWith 23 0 0)
@@ -80,6 +74,6 @@ orders =
     ∷ []
 
 -- each case has its answer
-pub refusals-in-order : map answer orders ≡ map (λ (c : Case). c .tells) orders
-unfolding computes answer orders
+pub refusals-in-order : Hold orders
+unfolding withRoom orders
 refusals-in-order = refl
