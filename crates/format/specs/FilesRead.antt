@@ -5,7 +5,7 @@ use mathlib.Core.List.{List, [], _∷_, _++_}
 use lib.ListN.{replicate}
 use Rattle.format.specs.Rows.{Row, is, Hold}
 use Rattle.format.specs.Content.{Pair, Map, magic}
-use Rattle.format.specs.Reading.{Verdict, accepted, refused, outcome, reading}
+use Rattle.format.specs.Reading.{two, Verdict, accepted, refused, outcome, readingOf, reading}
 use Rattle.format.specs.Told.{Told, none, nat}
 use Rattle.format.specs.ExampleFiles.{fallback, modifiableByte, end, script, globals, fileE, fileF}
 use Rattle.format.specs.ExampleMaps.{pairOf}
@@ -36,6 +36,24 @@ beginnings =
 pub magic-bytes : Hold beginnings
 unfolding reads beginnings
 magic-bytes = refl
+
+-- bytes that run out: in a key's length, in a key, in a value's length, in a value, before a map's end
+unfoldable pub cuts : List (Row Told)
+cuts =
+    is (reads (magic ++ (0xfd ∷ 1 ∷ []))) (refusedWith 2 0 0)
+    ∷ is (reads (magic ++ (2 ∷ 0x7f ∷ []))) (refusedWith 2 0 0)
+    ∷ is (reads (magic ++ (1 ∷ 0x7f ∷ []))) (refusedWith 2 0 0)
+    ∷ is (reads (magic ++ (1 ∷ 0x7f ∷ 0xfe ∷ 0 ∷ 0 ∷ 0 ∷ []))) (refusedWith 2 0 0)
+    ∷ is (reads (magic ++ (1 ∷ 0x7f ∷ 1 ∷ []))) (refusedWith 2 0 0)
+    ∷ is (reads (magic ++ (1 ∷ 0x7f ∷ 3 ∷ 5 ∷ 6 ∷ []))) (refusedWith 2 0 0)
+    ∷ is (reads (magic ++ (1 ∷ 0x7f ∷ 2 ∷ 5 ∷ 6 ∷ []))) (refusedWith 2 1 0)
+    ∷ is (reads (magic ++ (1 ∷ 0x7f ∷ 2 ∷ 5 ∷ 6 ∷ 1 ∷ []))) (refusedWith 2 1 0)
+    ∷ []
+
+-- so reading stops
+pub bytes-run-out : Hold cuts
+unfolding reads cuts
+bytes-run-out = refl
 
 -- a file with one input and one output, with so many bytes in a pair of the input and in one of the output
 abbrev kinds : ℕ → ℕ → ℕ → ℕ → List ℕ
@@ -104,6 +122,7 @@ contents =
           ∷ [];
       outs = ends (pairOf 0x04 [] ∷ []) ∷ ends (pairOf 0x04 (0x51 ∷ []) ∷ []) ∷ [];
     }))
+    ∷ is (readingOf two fileE) (accepted (record { global = globalMap 0 0; ins = []; outs = [] }))
     ∷ is (reading []) (refused InvalidMagic)
     ∷ is (reading magic) (refused UnexpectedEof)
     ∷ is (reading (globals 1 0 [] [] ++ (1 ∷ 0x0f ∷ 0 ∷ []))) (refused BadValue)
@@ -111,5 +130,5 @@ contents =
 
 -- so a file is read
 pub contents-read : Hold contents
-unfolding computes outcome reading contents
+unfolding computes outcome readingOf reading contents
 contents-read = refl
