@@ -1,5 +1,4 @@
 -- Computed examples of what is told: each case of each answer has its number and its values.
-use Prim.Native.Nat.{ℕ}
 use mathlib.Core.Path.{refl}
 use mathlib.Core.Bool.{true, false}
 use mathlib.Core.List.{List, [], _∷_}
@@ -10,7 +9,7 @@ use Rattle.format.specs.Parse.{out}
 use Rattle.format.specs.Scripts.{setOut}
 use Rattle.format.specs.Transaction.{txOut}
 use Rattle.format.specs.Told.{Told, told, none, int, flag, nat, maybeValue, toldParsed, toldLooked, toldNumbered, toldListing, toldNth, toldUtxo, toldLock, toldSet, toldTx, toldScript, ToldParse, toldWith, toldParse, ToldOut, toldLeft, toldSetOut, toldTxOut}
-use Rattle.format.specs.declared.PsbtError.the-variants.{InvalidMagic, UnexpectedEof, DuplicateKey, BadValue, OutOfRange, MissingOutputScript, InvalidOutputScripts, PairsFull, BadIndex, NoRoom}
+use Rattle.format.specs.declared.PsbtError.the-variants.{InvalidMagic, DuplicateKey, BadValue, OutOfRange, MissingOutputScript, InvalidOutputScripts, PairsFull, BadIndex, NoRoom}
 use Rattle.format.specs.declared.Maybe.the-variants.{Absent, Present}
 use Rattle.format.specs.declared.Parsed.the-variants as P
 use Rattle.format.specs.declared.Looked.the-variants as K
@@ -123,6 +122,7 @@ pub memory-told : Hold left
 unfolding numberOf toldSet toldTx toldSetOut toldTxOut left
 memory-told = refl
 
+-- so are the tables of a parse
 pub tables-told : Hold leftByParse
 unfolding numberOf toldParsed toldParse leftByParse
 tables-told = refl

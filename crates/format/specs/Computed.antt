@@ -8,8 +8,8 @@ use Rattle.format.specs.Tests.{only, every}
 use Rattle.format.specs.Numbers.{le, bytesOf, signed, unsigned}
 use Rattle.format.specs.Compact.{long, sizeBy, size, shortest, countBy, count}
 use Rattle.format.specs.Keys.{typeOf, dataOf, keyOf, order, isBelow, isSame, below, same}
-use Rattle.format.specs.Rules.{span, within, listedTypes, sizedTypes, valueFits, isRow, rowRule, sizesIn, sizes, countRule, bareRule, andThen, rule}
-use Rattle.format.specs.Content.{magic, find, field, present, number, maybe, sizeValue, counted, psbtOf, globalRule, modifiable, outputBy, outputRule, outputsRule}
+use Rattle.format.specs.Rules.{valueFits, isRow, rowRule, sizesIn, sizes, countRule, bareRule, andThen, rule}
+use Rattle.format.specs.Content.{find, field, present, number, maybe, sizeValue, counted, psbtOf, globalRule, modifiable, outputBy, outputRule, outputsRule}
 use Rattle.format.specs.Reading.{limit, ruled, valued, risen, keyed, itemBy, item, front, turn, items, mapped, pairEvents, mapEvents, mapsEvents, unless, lastly, globalThen, eventsOf, events}
 use Rattle.format.specs.Entries.{hasRoom, pairEntryWords, mapEntryWords, putPair, putMap, pairEntries, mapEntries, entryOf, width, keyIn, valueIn, shown}
 use Rattle.format.specs.Parse.{ParseOut, out, cut, parsed}
@@ -17,7 +17,7 @@ use Rattle.format.specs.Tables.{inFile, fit, fitted, heldBy, mapsReporte
 use Rattle.format.specs.Locks.{sizedTo, inOf, askedBy, along, heights, times, isMisfit, misfitBy, misfits, greatest, heightLock, timeLock, orZero, decideBy, wellFormed, decide, lockOf}
 use Rattle.format.specs.Scripts.{outOf, reportedBy, reported, taproot}
 use Rattle.format.specs.Transaction.{entryFits, scriptsFit, tableFits, setSoFar, setScript, scriptOf, ahead, needs, orFinal, inputThen, inputsThen, needsScript, outputThen, outputsThen, txWith, txBy, transaction, txReported, written, unsignedTx}
-use Rattle.format.specs.Told.{Value, none, int, nat, maybeValue, Told, told, toldParsed, toldTx, ToldOut, toldTxOut}
+use Rattle.format.specs.Told.{Value, int, nat, maybeValue, Told, told, toldParsed, toldTx, ToldOut, toldTxOut}
 use Rattle.format.specs.ExampleFiles.{fresh}
 use Rattle.format.specs.declared.Parsed.the-variants as R
 

@@ -102,10 +102,11 @@ printedE =
     ∷ 0x00
     ∷ []
 
--- E is that, 28 bytes
+-- E is that
 pub E-as-printed : fileE ≡ printedE
 E-as-printed = refl
 
+-- 28 bytes
 pub E-has-28 : length fileE ≡ 28
 E-has-28 = refl
 
@@ -128,10 +129,11 @@ printedF =
     ∷ 0x00
     ∷ []
 
--- F is that, 87 bytes
+-- F is that
 pub F-as-printed : fileF ≡ printedF
 F-as-printed = refl
 
+-- 87 bytes
 pub F-has-87 : length fileF ≡ 87
 F-has-87 = refl
 

@@ -7,7 +7,7 @@ use Rattle.format.specs.Rows.{Row, is, Hold}
 use Rattle.format.specs.Refusals.{numberOf}
 use Rattle.format.specs.Numbers.{le, bytesOf}
 use Rattle.format.specs.Keys.{order, same, isSame, keyOf}
-use Rattle.format.specs.Content.{Pair, Found, absent, found, find, field}
+use Rattle.format.specs.Content.{Pair, absent, found, find, field}
 use Rattle.format.specs.Tables.{View, hides, shows, gatherBy, gather, mapsReported}
 use Rattle.format.specs.Locks.{Sized, missing, misfit, is as bytes, sizedTo, In, inOf, askedBy, along, heights, times, isMisfit, misfitBy, misfits, greatest, heightLock, timeLock, orZero, decideBy, wellFormed, decide, Locked, locked, unlocked, lockOf}
 use Rattle.format.specs.Scripts.{outOf, reportedBy, reported}
@@ -17,7 +17,6 @@ use Rattle.format.specs.ExampleMaps.{pairOf, views, reporting}
 use Rattle.format.specs.declared.PsbtError.the-variants.{BadValue, OutOfRange, BadIndex}
 use Rattle.format.specs.declared.Maybe.{Maybe}
 use Rattle.format.specs.declared.Maybe.the-variants.{Absent, Present}
-use Rattle.format.specs.declared.Lock.{Lock}
 use Rattle.format.specs.declared.Lock.the-variants as D
 
 -- a field held to its width: not there, of a right length, one byte short, one byte long, empty

@@ -5,7 +5,7 @@ use mathlib.Core.Bool.{true, false}
 use mathlib.Core.List.{List, [], _∷_, _++_, map}
 use lib.ListN.{replicate}
 use Rattle.format.specs.Content.{magic}
-use Rattle.format.specs.Told.{Told, told, none, nat, flag, toldLeft}
+use Rattle.format.specs.Told.{told, none, nat, flag, toldLeft}
 use Rattle.format.specs.ExampleFiles.{txVersion, fallback, inputCount, outputCount, version, end, time, height, script, fileE, fileFWith, fileF, txE, txF}
 use Rattle.format.specs.Computed.{Answers, stops, goes, answers, computes, refusedWith, acceptedWith}
 

@@ -10,12 +10,12 @@ use Rattle.format.specs.Tests.{only, every}
 use Rattle.format.specs.Keys.{order, same, isSame, keyOf}
 use Rattle.format.specs.Content.{absent, found, present, find, field}
 use Rattle.format.specs.Tables.{View, hides, shows, gatherBy, gather, mapsReported}
-use Rattle.format.specs.Locks.{Sized, missing, misfit, is as bytes, sizedTo, inOf}
+use Rattle.format.specs.Locks.{missing, misfit, is as bytes, sizedTo, inOf}
 use Rattle.format.specs.Scripts.{Out, outOf, reportedBy, reported, scriptIn, taproot, allowed, named, served, Given, whole, cutShort, andMore, flat, entryFor, entriesFor, rightFor, settable, afterSet, setTable, setGiven, setBy, setScripts}
-use Rattle.format.specs.Told.{Told, told, flag, toldSet, ToldOut, toldLeft, toldSetOut}
+use Rattle.format.specs.Told.{told, flag, toldSet, ToldOut, toldLeft, toldSetOut}
 use Rattle.format.specs.ExampleFiles.{fresh}
 use Rattle.format.specs.ExampleMaps.{pairOf, views, reporting, taprootScript, plainOut, silentOut}
-use Rattle.format.specs.declared.PsbtError.the-variants.{OutOfRange, BadIndex}
+use Rattle.format.specs.declared.PsbtError.the-variants.{BadIndex}
 use Rattle.format.specs.declared.Maybe.the-variants.{Absent}
 use Rattle.format.specs.declared.State.{State}
 use Rattle.format.specs.declared.Assignment.{Assignment}

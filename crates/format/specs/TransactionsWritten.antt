@@ -3,21 +3,19 @@ use Prim.Native.Nat.{ℕ}
 use mathlib.Core.Path.{refl}
 use mathlib.Core.Bool.{Bool, true, false}
 use mathlib.Core.List.{List, [], _∷_, _++_}
-use lib.ListN.{length, replicate}
+use lib.ListN.{replicate}
 use lib.IntN.{ℤ, pos, negsuc}
 use Rattle.format.specs.Rows.{Row, is, Hold}
-use Rattle.format.specs.Numbers.{bytesOf}
-use Rattle.format.specs.Content.{Pair, absent, found}
+use Rattle.format.specs.Content.{absent, found}
 use Rattle.format.specs.Tables.{View, hides, shows}
 use Rattle.format.specs.Locks.{Sized, missing, misfit, is as bytes, In}
 use Rattle.format.specs.Scripts.{Out}
-use Rattle.format.specs.Transaction.{entryFits, scriptsFit, tableFits, Tx, refuses, writes, transaction, unsignedTx}
+use Rattle.format.specs.Transaction.{tableFits, Tx, refuses, writes, transaction, unsignedTx}
 use Rattle.format.specs.Told.{told, nat, flag, ToldOut, toldLeft, toldTxOut}
 use Rattle.format.specs.ExampleFiles.{fresh}
 use Rattle.format.specs.ExampleMaps.{pairOf, views, reporting, taprootScript, plainOut, silentOut}
 use Rattle.format.specs.Computed.{computes}
 use Rattle.format.specs.declared.PsbtError.the-variants.{BadValue, MissingOutputScript, BadIndex}
-use Rattle.format.specs.declared.Maybe.{Maybe}
 use Rattle.format.specs.declared.Maybe.the-variants.{Absent, Present}
 use Rattle.format.specs.declared.Psbt.{Psbt}
 use Rattle.format.specs.declared.State.{State}
