@@ -23,10 +23,10 @@ pub mod Computed
 pub mod ProvedExamples
 pub mod RefusalOrder
 pub mod TablesLeft
-pub mod FileLengths
-pub mod FilesRead
-pub mod AnswersTold
-pub mod LocksDecided
-pub mod ScriptsGiven
-pub mod TransactionsWritten
-pub mod OutputScripts
+pub mod ExampleLengths
+pub mod ExampleReading
+pub mod ExampleTold
+pub mod ExampleLocks
+pub mod ExampleScripts
+pub mod ExampleTransaction
+pub mod ExampleOutputScript
