@@ -2,7 +2,8 @@
 use Prim.Native.Nat.{ℕ}
 use mathlib.Core.Path.{_≡_, refl}
 use mathlib.Core.List.{List, [], _∷_}
-use Rattle.format.specs.Examples.{computes, fileE, fileF, fileFWith, script, time}
+use Rattle.format.specs.ExampleFiles.{fileE, fileF, fileFWith, script, time}
+use Rattle.format.specs.Computed.{computes}
 use Rattle.text.specs.Spelled.{digit, hexByte, hex, hexOrDash, decimalIn, decimal, signedDecimal}
 use Rattle.dump_text.specs.Lines.{refusedLine, versionText, countsText, headLine, mapLine, keyText, pairText, pairLine, pairsText, mapText, mapThen, mapsText, unsignedText, unsignedLine}
 use Rattle.dump_text.specs.Dump.{zeros, txLine, acceptedText, parsedText, dumpIn}

@@ -10,7 +10,8 @@ use Rattle.format.specs.Parse.{ParseOut, out, parsed}
 use Rattle.format.specs.Tables.{view}
 use Rattle.format.specs.Transaction.{TxOut, txOut, unsignedTx}
 use Rattle.format.specs.Told.{toldParse, toldTxOut}
-use Rattle.format.specs.Examples.{height, time, script, fileFWith, pairsE, psbtE, psbtF, fresh, txE, txF, computes}
+use Rattle.format.specs.ExampleFiles.{height, time, script, fileFWith, pairsE, psbtE, psbtF, fresh, txE, txF}
+use Rattle.format.specs.Computed.{computes}
 use Rattle.format.specs.declared.PsbtError.the-variants.{BadValue}
 use Rattle.format.specs.declared.Psbt.{Psbt}
 use Rattle.format.specs.declared.State.{State}

@@ -2,7 +2,8 @@
 use Prim.Native.Nat.{ℕ}
 use mathlib.Core.Path.{_≡_, refl}
 use mathlib.Core.List.{List, [], _∷_}
-use Rattle.format.specs.Examples.{computes, fileF, fileFWith, fallback, script, time, height}
+use Rattle.format.specs.ExampleFiles.{fileF, fileFWith, fallback, script, time, height}
+use Rattle.format.specs.Computed.{computes}
 use Rattle.format.specs.Tables.{heldInput}
 use Rattle.format.specs.Lookups.{place, lengthFits, ofLength, asked, numberAt}
 use Rattle.format.specs.Fields.{partField, numberField, requiredHeightLocktime, requiredTimeLocktime}
