@@ -1,3 +1,5 @@
+pub mod Shapes
+pub mod Views
 pub mod Strikes
 pub mod Newers
 pub mod Calls

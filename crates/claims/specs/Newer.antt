@@ -73,8 +73,9 @@ insOf c = map (λ (m : Map). inOf (m .pairs)) (c .ins)
 unfoldable pub outsOf : Content → List Out
 outsOf c = map (λ (m : Map). outOf (m .pairs)) (c .outs)
 
--- whoever knows the listed types alone is answered the same of both: report, maps, lookups, listings, lock, scripts and transaction
+-- whoever knows the listed types alone is answered the same of both: listed pairs, report, maps, lookups, listings, lock, scripts and transaction
 pub record Alike (c d : Content) : Type 0 where
+  pub same-listed : struck c ≡ struck d
   pub same-report : reportOf c ≡ reportOf d
   pub same-kinds : kinds c ≡ kinds d
   pub same-lookups : (m : ℕ) (key : List ℕ) → asks m (kinds c) key ≡ true → (ok : Bool) (l : Length) → lookIn ok l key (viewBy m (mapsOf c)) ≡ lookIn ok l key (viewBy m (mapsOf d))
