@@ -1,36 +1,34 @@
 -- Calls on the tables of two files with alike contents answer alike.
 use mathlib.Core.Path.{_≡_, refl, sym, _∙_, ap, ap₂}
 use mathlib.Core.List.{List, [], _∷_, _++_, map}
-use mathlib.Core.Bool.{Bool, true, false, _&&_}
+use mathlib.Core.Bool.{Bool, true, false}
 use Prim.Native.Nat.{ℕ, suc, _+_, _≤_}
 use native.Mathlib.Omega.{arith}
-use lib.Dec.{eqb}
 use lib.ListN.{length, take, drop, length-append, length-map}
 use Rattle.format.specs.Tests.{keepIf, only}
 use Rattle.format.specs.Keys.{typeOf, keyOf}
 use Rattle.format.specs.Rules.{GLOBAL, INPUT, OUTPUT, span, within, listedTypes, listed}
 use Rattle.format.specs.Content.{Pair, Map, Content, mapsOf, bytes, field, psbtOf}
 use Rattle.format.specs.Reading.{limit, accepted, reading}
-use Rattle.format.specs.Tables.{Held, held, heldInput, heldOutput, mapsReported, View, shows, viewOf, view, gathered, gatherBy, gather}
-use Rattle.format.specs.Lookups.{Length, anyLength, exactly, keyList, asked, look}
-use Rattle.format.specs.Fields.{partField, numberField, nonWitnessUtxo, witnessUtxo, sighashType, redeemScript, witnessScript, finalScriptsig, finalScriptwitness, previousTxid, outputIndex, sequence, requiredTimeLocktime, requiredHeightLocktime, spTweak, outRedeemScript, outWitnessScript, amount, script, spV0Info, spV0Label, scanLookup, globalShare, globalProof, inputShare, inputProof, leafFits, musigLookup, pubNonce, partialSig, inputParticipants, outputParticipants}
+use Rattle.format.specs.Tables.{Held, held, heldInput, heldOutput, mapsReported, View, viewOf, view, gathered, gatherBy, gather}
+use Rattle.format.specs.Lookups.{Length, anyLength, asked, look}
+use Rattle.format.specs.Fields.{partField, nonWitnessUtxo, witnessUtxo, sighashType, redeemScript, witnessScript, finalScriptsig, finalScriptwitness, previousTxid, outputIndex, sequence, requiredTimeLocktime, requiredHeightLocktime, spTweak, outRedeemScript, outWitnessScript, amount, script, spV0Info, spV0Label, scanLookup, globalShare, globalProof, inputShare, inputProof, musigLookup, pubNonce, partialSig, inputParticipants, outputParticipants}
 use Rattle.format.specs.Locks.{In, inOf}
 use Rattle.format.specs.Scripts.{Out, outOf, Reported, reports, reportedBy, reported, setBy, setScripts}
 use Rattle.format.specs.Transaction.{txReported, written, unsignedTx, lockBy, lockDecided}
 use Rattle.format.specs.declared.Psbt.{Psbt}
-use Rattle.format.specs.declared.State.{State}
 use Rattle.laws.specs.Fine.{RisesFile}
 use Rattle.laws.specs.Shown.{bare, viewBy, pairsIn, pairTable, mapTable, Room}
 use Rattle.laws.proofs.Files.{reading-is, one-plus-counts}
 use Rattle.laws.proofs.Parsed.{parse-is}
 use Rattle.laws.proofs.Shown.{view-is}
 use Rattle.laws.proofs.Found.{find-bare}
-use Rattle.claims.specs.Answers.{Answer, lookIn, numberIn, countIn, participantIn, utxoIn, scriptIn, listIn, nthIn}
+use Rattle.claims.specs.Answers.{lookIn, countIn, participantIn, utxoIn, scriptIn, listIn, nthIn}
 use Rattle.claims.specs.Newer.{AddedFile, strike, strikeMap, struck, kinds, asks, reportOf, insOf, outsOf, Alike}
-use Rattle.claims.specs.Calls.{ParsesTo, bytesBy, pairsBy, OfMap, OfInput, OfOutput, SameCalls}
-use Rattle.claims.proofs.Shapes.{held-sound, input-sound, output-sound, By, asked-by, number-by, count-by, participant-by, partIn, part-by, utxo-by, utxo-part-by, bytesWith, script-by, script-part-by, list-by, nth-by}
+use Rattle.claims.specs.Calls.{ParsesTo, bytesBy, OfMap, SameCalls}
+use Rattle.claims.proofs.Shapes.{held-sound, input-sound, output-sound, By, asked-by, count-by, participant-by, partIn, part-in, part-by, utxo-by, utxo-part-by, bytesWith, script-by, script-part-by, list-by, nth-by}
 use Rattle.claims.proofs.Views.{input-shows, output-shows}
-use Rattle.claims.proofs.Strikes.{field-strike, look-strike, list-strike, out-strike, each-alike}
+use Rattle.claims.proofs.Agree.{Agree, agree-by, call-alike, look-alike, bytes-alike, number-alike, pairs-alike, script-goes}
 use Rattle.claims.proofs.Newers.{newer, older}
 
 -- what a transaction takes from a map asks nothing of the spelling
@@ -107,70 +105,30 @@ module _ (f : List ℕ) (c : Content) (P M : List ℕ) (e : reading f ≡ accept
 
 -- so where contents are alike, calls are
 module _ (f : List ℕ) (c : Content) (P M : List ℕ) (e : reading f ≡ accepted c) (g : List ℕ) (d : Content) (Q N : List ℕ) (k : reading g ≡ accepted d) (a : Alike c d) where
-  -- the one law: a call that answers by what its map shows answers alike where the contents' maps do
+  -- maps by their kinds: the global map, input number i, output number i
+  global-agree : Agree GLOBAL f (held f (pairTable c P) (mapTable c M) (reportOf c) 0) g (held g (pairTable d Q) (mapTable d N) (reportOf d) 0)
+  unfolding struck mapsOf viewBy
+  global-agree =
+      agree-by GLOBAL (c .global ∷ []) (d .global ∷ []) (ap (λ (x : Content). x .global ∷ []) (a .same-listed)) 0 (held-sound f _ _ _ 0) (table-shows f c P M e 0) (held-sound g _ _ _ 0) (table-shows g d Q N k 0)
+
+  input-agree : (i : ℕ) → Agree INPUT f (heldInput f (pairTable c P) (mapTable c M) (reportOf c) i) g (heldInput g (pairTable d Q) (mapTable d N) (reportOf d) i)
+  unfolding struck
+  input-agree i =
+      agree-by INPUT (c .ins) (d .ins) (ap (λ (x : Content). x .ins) (a .same-listed)) i (input-sound f _ _ _ i) (table-input f c P M e i) (input-sound g _ _ _ i) (table-input g d Q N k i)
+
+  output-agree : (i : ℕ) → Agree OUTPUT f (heldOutput f (pairTable c P) (mapTable c M) (reportOf c) i) g (heldOutput g (pairTable d Q) (mapTable d N) (reportOf d) i)
+  unfolding struck
+  output-agree i =
+      agree-by OUTPUT (c .outs) (d .outs) (ap (λ (x : Content). x .outs) (a .same-listed)) i (output-sound f _ _ _ i) (table-output f c P M e i) (output-sound g _ _ _ i) (table-output g d Q N k i)
+
+  -- maps by their numbers
   of-map : {A : Type 0} (call : List ℕ → Held → A) (F : View → A) → By call F → (m : ℕ) → F (viewBy m (mapsOf c)) ≡ F (viewBy m (mapsOf d))
       → OfMap f (pairTable c P) (mapTable c M) (reportOf c) g (pairTable d Q) (mapTable d N) (reportOf d) m call
   of-map call F is m q =
       is f _ (held-sound f _ _ _ m) ∙ ap F (table-shows f c P M e m) ∙ q ∙ sym (ap F (table-shows g d Q N k m)) ∙ sym (is g _ (held-sound g _ _ _ m))
 
-  of-input : {A : Type 0} (call : List ℕ → Held → A) (F : View → A) → By call F → ((ps : List Pair) → F (shows (strike INPUT ps)) ≡ F (shows ps))
-      → OfInput f (pairTable c P) (mapTable c M) (reportOf c) g (pairTable d Q) (mapTable d N) (reportOf d) call
-  unfolding struck
-  of-input call F is h i =
-      is f _ (input-sound f _ _ _ i) ∙ ap F (table-input f c P M e i)
-      ∙ each-alike F INPUT h (c .ins) (d .ins) (ap (λ (x : Content). x .ins) (a .same-listed)) i
-      ∙ sym (ap F (table-input g d Q N k i)) ∙ sym (is g _ (input-sound g _ _ _ i))
-
-  of-output : {A : Type 0} (call : List ℕ → Held → A) (F : View → A) → By call F → ((ps : List Pair) → F (shows (strike OUTPUT ps)) ≡ F (shows ps))
-      → OfOutput f (pairTable c P) (mapTable c M) (reportOf c) g (pairTable d Q) (mapTable d N) (reportOf d) call
-  unfolding struck
-  of-output call F is h i =
-      is f _ (output-sound f _ _ _ i) ∙ ap F (table-output f c P M e i)
-      ∙ each-alike F OUTPUT h (c .outs) (d .outs) (ap (λ (x : Content). x .outs) (a .same-listed)) i
-      ∙ sym (ap F (table-output g d Q N k i)) ∙ sym (is g _ (output-sound g _ _ _ i))
-
-  -- what is made of a lookup's answer
-  map-look : {A : Type 0} (call : List ℕ → Held → A) (F : Answer (List ℕ) → A) (ok : Bool) (l : Length) (key : List ℕ) → By call (λ v. F (lookIn ok l key v))
-      → (m : ℕ) → asks m (kinds c) key ≡ true → OfMap f (pairTable c P) (mapTable c M) (reportOf c) g (pairTable d Q) (mapTable d N) (reportOf d) m call
-  map-look call F ok l key is m h = of-map call (λ v. F (lookIn ok l key v)) is m (ap F (a .same-lookups m key h ok l))
-
-  input-look : {A : Type 0} (call : List ℕ → Held → A) (F : Answer (List ℕ) → A) (ok : Bool) (l : Length) (key : List ℕ) → By call (λ v. F (lookIn ok l key v))
-      → listed INPUT key ≡ true → OfInput f (pairTable c P) (mapTable c M) (reportOf c) g (pairTable d Q) (mapTable d N) (reportOf d) call
-  input-look call F ok l key is h = of-input call (λ v. F (lookIn ok l key v)) is (λ ps. ap F (look-strike INPUT key h ok l ps))
-
-  output-look : {A : Type 0} (call : List ℕ → Held → A) (F : Answer (List ℕ) → A) (ok : Bool) (l : Length) (key : List ℕ) → By call (λ v. F (lookIn ok l key v))
-      → listed OUTPUT key ≡ true → OfOutput f (pairTable c P) (mapTable c M) (reportOf c) g (pairTable d Q) (mapTable d N) (reportOf d) call
-  output-look call F ok l key is h = of-output call (λ v. F (lookIn ok l key v)) is (λ ps. ap F (look-strike OUTPUT key h ok l ps))
-
   map-bytes : (ok : Bool) (l : Length) (key : List ℕ) (m : ℕ) → asks m (kinds c) key ≡ true → OfMap f (pairTable c P) (mapTable c M) (reportOf c) g (pairTable d Q) (mapTable d N) (reportOf d) m (bytesBy (λ x h. asked ok l x key h))
-  map-bytes ok l key = map-look _ (λ x. x) ok l key (asked-by ok l key)
-
-  input-bytes : (ok : Bool) (l : Length) (key : List ℕ) → listed INPUT key ≡ true → OfInput f (pairTable c P) (mapTable c M) (reportOf c) g (pairTable d Q) (mapTable d N) (reportOf d) (bytesBy (λ x h. asked ok l x key h))
-  input-bytes ok l key = input-look _ (λ x. x) ok l key (asked-by ok l key)
-
-  output-bytes : (ok : Bool) (l : Length) (key : List ℕ) → listed OUTPUT key ≡ true → OfOutput f (pairTable c P) (mapTable c M) (reportOf c) g (pairTable d Q) (mapTable d N) (reportOf d) (bytesBy (λ x h. asked ok l x key h))
-  output-bytes ok l key = output-look _ (λ x. x) ok l key (asked-by ok l key)
-
-  -- numbers and listings
-  input-number : (t w : ℕ) → listed INPUT (keyOf t []) ≡ true → OfInput f (pairTable c P) (mapTable c M) (reportOf c) g (pairTable d Q) (mapTable d N) (reportOf d) (numberField t w)
-  input-number t w = input-look _ numberIn true (exactly w) (keyOf t []) (number-by t w)
-
-  output-number : (t w : ℕ) → listed OUTPUT (keyOf t []) ≡ true → OfOutput f (pairTable c P) (mapTable c M) (reportOf c) g (pairTable d Q) (mapTable d N) (reportOf d) (numberField t w)
-  output-number t w = output-look _ numberIn true (exactly w) (keyOf t []) (number-by t w)
-
-  map-pairs : (t m : ℕ) → asks m (kinds c) (keyOf t []) ≡ true → OfMap f (pairTable c P) (mapTable c M) (reportOf c) g (pairTable d Q) (mapTable d N) (reportOf d) m (pairsBy t)
-  map-pairs t m h = of-map _ (listIn t) (list-by t) m (a .same-lists m t h)
-
-  input-pairs : (t : ℕ) → listed INPUT (keyOf t []) ≡ true → OfInput f (pairTable c P) (mapTable c M) (reportOf c) g (pairTable d Q) (mapTable d N) (reportOf d) (pairsBy t)
-  input-pairs t h = of-input _ (listIn t) (list-by t) (list-strike INPUT t h)
-
-  output-pairs : (t : ℕ) → listed OUTPUT (keyOf t []) ≡ true → OfOutput f (pairTable c P) (mapTable c M) (reportOf c) g (pairTable d Q) (mapTable d N) (reportOf d) (pairsBy t)
-  output-pairs t h = of-output _ (listIn t) (list-by t) (list-strike OUTPUT t h)
-
-  -- scripts of outputs
-  script-strike : (t : State) (T : List ℕ) (n : ℕ) (ps : List Pair) → scriptIn t T n (shows (strike OUTPUT ps)) ≡ scriptIn t T n (shows ps)
-  unfolding scriptIn listed typeOf keyOf within listedTypes span
-  script-strike t T n ps = rw (out-strike ps, field-strike OUTPUT 0x04 ps refl)
+  map-bytes ok l key m h = of-map _ (lookIn ok l key) (asked-by ok l key) m (a .same-lookups m key h ok l)
 
   -- what is a function of the report and of what all maps show
   by-report : {A : Type 0} (F : Psbt → Reported → A) → F (reportOf c) (reported (view f (pairTable c P) (mapTable c M) (reportOf c)) (reportOf c))
@@ -183,59 +141,63 @@ module _ (f : List ℕ) (c : Content) (P M : List ℕ) (e : reading f ≡ accept
   unfolding lockDecided setScripts unsignedTx look partField scanLookup musigLookup nonWitnessUtxo witnessUtxo sighashType redeemScript witnessScript finalScriptsig finalScriptwitness previousTxid outputIndex sequence requiredTimeLocktime requiredHeightLocktime spTweak outRedeemScript outWitnessScript amount script spV0Info spV0Label globalShare globalProof inputShare inputProof pubNonce partialSig inputParticipants outputParticipants asks kinds listed typeOf keyOf within listedTypes span
   same-calls = record {
     report = a .same-report;
+    part-of = λ y z h. part-in f y ∙ ap (partIn (λ v. v)) h ∙ sym (part-in g z);
+    global-shows = global-agree .same;
+    input-shows = λ i. input-agree i .same;
+    output-shows = λ i. output-agree i .same;
     lookups = λ m key h ok l. map-bytes ok l key m h;
-    input-lookups = λ key h ok l. input-bytes ok l key h;
-    output-lookups = λ key h ok l. output-bytes ok l key h;
-    input-numbers = input-number;
-    output-numbers = output-number;
+    input-lookups = λ key h ok l i. bytes-alike (input-agree i) ok l key h;
+    output-lookups = λ key h ok l i. bytes-alike (output-agree i) ok l key h;
+    input-numbers = λ t w h i. number-alike (input-agree i) t w h;
+    output-numbers = λ t w h i. number-alike (output-agree i) t w h;
     map-get = λ m t x h. map-bytes true anyLength (keyOf t x) m h;
-    map-get-part = λ m t x h. map-look _ (partIn (λ y. y)) true anyLength (keyOf t x) (part-by true anyLength (keyOf t x)) m h;
-    map-list = λ m t h. map-pairs t m h;
+    map-get-part = λ m t x h. of-map _ (λ v. partIn (λ y. y) (lookIn true anyLength (keyOf t x) v)) (part-by true anyLength (keyOf t x)) m (ap (partIn (λ y. y)) (a .same-lookups m (keyOf t x) h true anyLength));
+    map-list = λ m t h. of-map _ (listIn t) (list-by t) m (a .same-lists m t h);
     map-nth = λ m t j h. of-map _ (λ v. nthIn j (listIn t v)) (nth-by t j) m (ap (nthIn j) (a .same-lists m t h));
-    input-iter-keys = input-pairs;
-    output-iter-keys = output-pairs;
-    global-get-sp-ecdh-share = λ x. map-bytes (eqb (length x) 33) (exactly 33) (keyOf 0x07 x) 0 refl;
-    global-get-sp-dleq-proof = λ x. map-bytes (eqb (length x) 33) (exactly 64) (keyOf 0x08 x) 0 refl;
-    global-sp-ecdh-shares = map-pairs 0x07 0 refl;
-    global-sp-dleq-proofs = map-pairs 0x08 0 refl;
-    input-non-witness-utxo = input-bytes true anyLength (keyOf 0x00 []) refl;
-    input-witness-utxo = input-bytes true anyLength (keyOf 0x01 []) refl;
-    input-sighash-type = input-number 0x03 4 refl;
-    input-redeem-script = input-bytes true anyLength (keyOf 0x04 []) refl;
-    input-witness-script = input-bytes true anyLength (keyOf 0x05 []) refl;
-    input-final-scriptsig = input-bytes true anyLength (keyOf 0x07 []) refl;
-    input-final-scriptwitness = input-bytes true anyLength (keyOf 0x08 []) refl;
-    input-previous-txid = input-bytes true (exactly 32) (keyOf 0x0e []) refl;
-    input-output-index = input-number 0x0f 4 refl;
-    input-sequence = input-number 0x10 4 refl;
-    input-required-time-locktime = input-number 0x11 4 refl;
-    input-required-height-locktime = input-number 0x12 4 refl;
-    input-sp-tweak = input-bytes true (exactly 32) (keyOf 0x20 []) refl;
-    input-bip32-derivations = input-pairs 0x06 refl;
-    input-get-sp-ecdh-share = λ x. input-bytes (eqb (length x) 33) (exactly 33) (keyOf 0x1d x) refl;
-    input-get-sp-dleq-proof = λ x. input-bytes (eqb (length x) 33) (exactly 64) (keyOf 0x1e x) refl;
-    input-sp-ecdh-shares = input-pairs 0x1d refl;
-    input-sp-dleq-proofs = input-pairs 0x1e refl;
-    input-sp-spend-bip32-derivations = input-pairs 0x1f refl;
-    input-get-musig2-pub-nonce = λ p x l. input-bytes (eqb (length p) 33 && (eqb (length x) 33 && leafFits l)) (exactly 66) (keyOf 0x1b (p ++ (x ++ l))) refl;
-    input-get-musig2-partial-sig = λ p x l. input-bytes (eqb (length p) 33 && (eqb (length x) 33 && leafFits l)) (exactly 32) (keyOf 0x1c (p ++ (x ++ l))) refl;
-    input-get-musig2-participant-pubkeys = λ x l. input-bytes (eqb (length x) 33 && leafFits l) keyList (keyOf 0x1a (x ++ l)) refl;
-    input-get-musig2-participant-count = λ x l. let ok = eqb (length x) 33 && leafFits l in let key = keyOf 0x1a (x ++ l) in input-look _ countIn ok keyList key (count-by ok keyList key) refl;
-    input-get-musig2-participant = λ x l n. let ok = eqb (length x) 33 && leafFits l in let key = keyOf 0x1a (x ++ l) in input-look _ (participantIn n) ok keyList key (participant-by ok keyList key n) refl;
-    input-get-witness-utxo = input-look _ utxoIn true anyLength (keyOf 0x01 []) utxo-by refl;
-    input-get-witness-utxo-script = input-look _ (λ y. partIn (λ z. z .1) (utxoIn y)) true anyLength (keyOf 0x01 []) utxo-part-by refl;
-    output-redeem-script = output-bytes true anyLength (keyOf 0x00 []) refl;
-    output-witness-script = output-bytes true anyLength (keyOf 0x01 []) refl;
-    output-amount = output-number 0x03 8 refl;
-    output-script = output-bytes true anyLength (keyOf 0x04 []) refl;
-    output-sp-v0-info = output-bytes true (exactly 66) (keyOf 0x09 []) refl;
-    output-sp-v0-label = output-number 0x0a 4 refl;
-    output-bip32-derivations = output-pairs 0x02 refl;
-    output-get-musig2-participant-pubkeys = λ x. output-bytes (eqb (length x) 33) keyList (keyOf 0x08 x) refl;
-    output-get-musig2-participant-count = λ x. output-look _ countIn (eqb (length x) 33) keyList (keyOf 0x08 x) (count-by (eqb (length x) 33) keyList (keyOf 0x08 x)) refl;
-    output-get-musig2-participant = λ x n. output-look _ (participantIn n) (eqb (length x) 33) keyList (keyOf 0x08 x) (participant-by (eqb (length x) 33) keyList (keyOf 0x08 x) n) refl;
-    output-output-script = λ t T n. of-output _ (scriptIn t T n) (script-by t T n) (script-strike t T n);
-    output-output-script-part = λ t T n. of-output _ (λ v. partIn (bytesWith T) (scriptIn t T n v)) (script-part-by t T n) (λ ps. ap (partIn (bytesWith T)) (script-strike t T n ps));
+    input-iter-keys = λ t h i. pairs-alike (input-agree i) t h;
+    output-iter-keys = λ t h i. pairs-alike (output-agree i) t h;
+    global-get-sp-ecdh-share = λ x. bytes-alike global-agree _ _ _ refl;
+    global-get-sp-dleq-proof = λ x. bytes-alike global-agree _ _ _ refl;
+    global-sp-ecdh-shares = pairs-alike global-agree _ refl;
+    global-sp-dleq-proofs = pairs-alike global-agree _ refl;
+    input-non-witness-utxo = λ i. bytes-alike (input-agree i) _ _ _ refl;
+    input-witness-utxo = λ i. bytes-alike (input-agree i) _ _ _ refl;
+    input-sighash-type = λ i. number-alike (input-agree i) _ _ refl;
+    input-redeem-script = λ i. bytes-alike (input-agree i) _ _ _ refl;
+    input-witness-script = λ i. bytes-alike (input-agree i) _ _ _ refl;
+    input-final-scriptsig = λ i. bytes-alike (input-agree i) _ _ _ refl;
+    input-final-scriptwitness = λ i. bytes-alike (input-agree i) _ _ _ refl;
+    input-previous-txid = λ i. bytes-alike (input-agree i) _ _ _ refl;
+    input-output-index = λ i. number-alike (input-agree i) _ _ refl;
+    input-sequence = λ i. number-alike (input-agree i) _ _ refl;
+    input-required-time-locktime = λ i. number-alike (input-agree i) _ _ refl;
+    input-required-height-locktime = λ i. number-alike (input-agree i) _ _ refl;
+    input-sp-tweak = λ i. bytes-alike (input-agree i) _ _ _ refl;
+    input-bip32-derivations = λ i. pairs-alike (input-agree i) _ refl;
+    input-get-sp-ecdh-share = λ x i. bytes-alike (input-agree i) _ _ _ refl;
+    input-get-sp-dleq-proof = λ x i. bytes-alike (input-agree i) _ _ _ refl;
+    input-sp-ecdh-shares = λ i. pairs-alike (input-agree i) _ refl;
+    input-sp-dleq-proofs = λ i. pairs-alike (input-agree i) _ refl;
+    input-sp-spend-bip32-derivations = λ i. pairs-alike (input-agree i) _ refl;
+    input-get-musig2-pub-nonce = λ p x l i. bytes-alike (input-agree i) _ _ _ refl;
+    input-get-musig2-partial-sig = λ p x l i. bytes-alike (input-agree i) _ _ _ refl;
+    input-get-musig2-participant-pubkeys = λ x l i. bytes-alike (input-agree i) _ _ _ refl;
+    input-get-musig2-participant-count = λ x l i. look-alike (input-agree i) _ countIn _ _ _ (count-by _ _ _) refl;
+    input-get-musig2-participant = λ x l n i. look-alike (input-agree i) _ (participantIn n) _ _ _ (participant-by _ _ _ n) refl;
+    input-get-witness-utxo = λ i. look-alike (input-agree i) _ utxoIn _ _ _ utxo-by refl;
+    input-get-witness-utxo-script = λ i. look-alike (input-agree i) _ (λ y. partIn (λ z. z .1) (utxoIn y)) _ _ _ utxo-part-by refl;
+    output-redeem-script = λ i. bytes-alike (output-agree i) _ _ _ refl;
+    output-witness-script = λ i. bytes-alike (output-agree i) _ _ _ refl;
+    output-amount = λ i. number-alike (output-agree i) _ _ refl;
+    output-script = λ i. bytes-alike (output-agree i) _ _ _ refl;
+    output-sp-v0-info = λ i. bytes-alike (output-agree i) _ _ _ refl;
+    output-sp-v0-label = λ i. number-alike (output-agree i) _ _ refl;
+    output-bip32-derivations = λ i. pairs-alike (output-agree i) _ refl;
+    output-get-musig2-participant-pubkeys = λ x i. bytes-alike (output-agree i) _ _ _ refl;
+    output-get-musig2-participant-count = λ x i. look-alike (output-agree i) _ countIn _ _ _ (count-by _ _ _) refl;
+    output-get-musig2-participant = λ x n i. look-alike (output-agree i) _ (participantIn n) _ _ _ (participant-by _ _ _ n) refl;
+    output-output-script = λ t T n i. call-alike (output-agree i) _ (scriptIn t T n) (script-by t T n) (script-goes t T n);
+    output-output-script-part = λ t T n i. call-alike (output-agree i) _ (λ v. partIn (bytesWith T) (scriptIn t T n v)) (script-part-by t T n) (λ ps. ap (partIn (bytesWith T)) (script-goes t T n ps));
     lock-decided = by-report lockBy;
     set-sp-output-scripts = λ x buffer t T. by-report (λ s r. setBy buffer t T x r);
     unsigned-tx = λ t T B. by-report (λ s r. written t B (txReported s t T r));

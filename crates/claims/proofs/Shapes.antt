@@ -203,7 +203,7 @@ partIn k (refuses e) = []
 partIn k lacks = []
 partIn k (gives x) = k x
 
-part-in : (f : List ℕ) (y : Looked) → part f y ≡ partIn (λ v. v) (answerAt f y)
+pub part-in : (f : List ℕ) (y : Looked) → part f y ≡ partIn (λ v. v) (answerAt f y)
 unfolding part partIn answerAt
 part-in f (Refused e) = refl
 part-in f Absent = refl

@@ -20,7 +20,7 @@ use Rattle.format.proofs.Tests.{clash, no-by}
 use Rattle.format.proofs.Keys.{same-is}
 use Rattle.laws.specs.Shown.{bare, viewBy}
 use Rattle.claims.specs.Answers.{refuses, ofLengthIn, lookIn, listIn}
-use Rattle.claims.specs.Newer.{strike, strikeMap, struck, kinds, asks, reportOf, insOf, outsOf, Alike}
+use Rattle.claims.specs.Newer.{strike, strikeMap, struck, listedIn, kinds, asks, reportOf, insOf, outsOf, Alike}
 
 -- the value of a key of a listed type
 find-at : (k : ℕ) (key : List ℕ) (p : Pair) (ps qs : List Pair) (t : Bool) → listed k (p .key) ≡ t → listed k key ≡ true
@@ -143,39 +143,34 @@ struck-again c = λ i. record {
     again : (k : ℕ) (m : Map) → strikeMap k (strikeMap k m) ≡ strikeMap k m
     again k m = λ i. record { pairs = strike-again k (m .pairs) i; end = m .end }
 
--- by a map's number among maps of one kind: what a map answers by its listed pairs alone
-module _ {A : Type 0} (g : View → A) (k : ℕ) (h : (ps : List Pair) → g (shows (strike k ps)) ≡ g (shows ps)) where
-  shown-strike : (ps : List Pair) → g (shows (map bare (strike k ps))) ≡ g (shows (map bare ps))
-  shown-strike ps = ap (λ (qs : List Pair). g (shows qs)) (bare-strike k ps) ∙ h (map bare ps)
+-- maps of one kind, struck, show what is listed
+pub view-struck : (k : ℕ) (ms : List Map) (i : ℕ) → viewBy i (map (strikeMap k) ms) ≡ listedIn k (viewBy i ms)
+unfolding viewBy strikeMap listedIn
+view-struck k [] i = refl
+view-struck k (x ∷ ms) zero = ap shows (bare-strike k (x .pairs))
+view-struck k (x ∷ ms) (suc i) = view-struck k ms i
 
-  each-strike : (ms : List Map) (i : ℕ) → g (viewBy i (map (strikeMap k) ms)) ≡ g (viewBy i ms)
-  unfolding viewBy strikeMap
-  each-strike [] i = refl
-  each-strike (x ∷ ms) zero = shown-strike (x .pairs)
-  each-strike (x ∷ ms) (suc i) = each-strike ms i
-
-  -- so two lists of maps with the same listed pairs answer alike
-  pub each-alike : (ms ns : List Map) → map (strikeMap k) ms ≡ map (strikeMap k) ns → (i : ℕ) → g (viewBy i ms) ≡ g (viewBy i ns)
-  each-alike ms ns e i = sym (each-strike ms i) ∙ ap (λ (l : List Map). g (viewBy i l)) e ∙ each-strike ns i
-
--- by a map's number among all maps
+-- by a map's number: what a map answers by its listed pairs alone
 module _ {A : Type 0} (g : View → A) (key : List ℕ) (h : (k : ℕ) (ps : List Pair) → listed k key ≡ true → g (shows (strike k ps)) ≡ g (shows ps)) where
+  shown-strike : (k : ℕ) (ps : List Pair) → listed k key ≡ true → g (shows (map bare (strike k ps))) ≡ g (shows (map bare ps))
+  shown-strike k ps l = ap (λ (qs : List Pair). g (shows qs)) (bare-strike k ps) ∙ h k (map bare ps) l
+
   last-strike : (k : ℕ) (ms : List Map) (m : ℕ) → asks m (map (λ (x : Map). k) ms) key ≡ true → g (viewBy m (map (strikeMap k) ms)) ≡ g (viewBy m ms)
   unfolding asks viewBy strikeMap
   last-strike k [] m l = refl
-  last-strike k (x ∷ ms) zero l = shown-strike g k (λ ps. h k ps l) (x .pairs)
+  last-strike k (x ∷ ms) zero l = shown-strike k (x .pairs) l
   last-strike k (x ∷ ms) (suc m) l = last-strike k ms m l
 
   maps-strike : (ms ns : List Map) (m : ℕ) → asks m (map (λ (x : Map). INPUT) ms ++ map (λ (x : Map). OUTPUT) ns) key ≡ true
       → g (viewBy m (map (strikeMap INPUT) ms ++ map (strikeMap OUTPUT) ns)) ≡ g (viewBy m (ms ++ ns))
   unfolding asks viewBy strikeMap
   maps-strike [] ns m l = last-strike OUTPUT ns m l
-  maps-strike (x ∷ ms) ns zero l = shown-strike g INPUT (λ ps. h INPUT ps l) (x .pairs)
+  maps-strike (x ∷ ms) ns zero l = shown-strike INPUT (x .pairs) l
   maps-strike (x ∷ ms) ns (suc m) l = maps-strike ms ns m l
 
   view-strike : (c : Content) (m : ℕ) → asks m (kinds c) key ≡ true → g (viewBy m (mapsOf (struck c))) ≡ g (viewBy m (mapsOf c))
   unfolding asks viewBy strikeMap struck mapsOf kinds
-  view-strike c zero l = shown-strike g GLOBAL (λ ps. h GLOBAL ps l) (c .global .pairs)
+  view-strike c zero l = shown-strike GLOBAL (c .global .pairs) l
   view-strike c (suc m) l = maps-strike (c .ins) (c .outs) m l
 
 -- alike by what lock, scripts and transaction are made of

@@ -9,7 +9,7 @@ use Rattle.format.specs.Numbers.{le}
 use Rattle.format.specs.Content.{Pair, Found, absent, found, find, field}
 use Rattle.format.specs.Entries.{shown}
 use Rattle.format.specs.Tables.{Held, no, holds, View, hides, shows}
-use Rattle.format.specs.Lookups.{Length, lengthFits, listing, list, nth}
+use Rattle.format.specs.Lookups.{Length, lengthFits, listing, nth}
 use Rattle.format.specs.Fields.{utxoOf}
 use Rattle.format.specs.Scripts.{outOf, scriptEntry}
 use Rattle.format.specs.Transaction.{tableFits}

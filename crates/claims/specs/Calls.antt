@@ -5,10 +5,10 @@ use mathlib.Core.Bool.{Bool, true}
 use mathlib.Core.List.{List, []}
 use lib.ListN.{length}
 use Rattle.format.specs.Keys.{keyOf}
-use Rattle.format.specs.Rules.{INPUT, OUTPUT, listed}
+use Rattle.format.specs.Rules.{GLOBAL, INPUT, OUTPUT, listed}
 use Rattle.format.specs.Content.{Pair, Content, mapsOf}
 use Rattle.format.specs.Parse.{out, parsed}
-use Rattle.format.specs.Tables.{Held, held, heldInput, heldOutput, View, view}
+use Rattle.format.specs.Tables.{Held, held, heldInput, heldOutput, View, viewOf, view}
 use Rattle.format.specs.Lookups.{Length, asked, look, part, list}
 use Rattle.format.specs.Fields.{numberField, nonWitnessUtxo, witnessUtxo, sighashType, redeemScript, witnessScript, finalScriptsig, finalScriptwitness, previousTxid, outputIndex, sequence, requiredTimeLocktime, requiredHeightLocktime, spTweak, outRedeemScript, outWitnessScript, amount, script, spV0Info, spV0Label, globalShare, globalProof, inputShare, inputProof, pubNonce, partialSig, inputParticipants, outputParticipants, participantCount, participant, getWitnessUtxo, utxoPart}
 use Rattle.format.specs.Scripts.{Given, setScripts}
@@ -19,7 +19,7 @@ use Rattle.format.specs.declared.Looked.{Looked}
 use Rattle.format.specs.declared.Parsed.the-variants.{Accepted}
 use Rattle.laws.specs.Shown.{pairsIn, pairTable, mapTable}
 use Rattle.claims.specs.Answers.{Answer, answerAt, utxoAt, scriptAt, listAt, nthOfListing}
-use Rattle.claims.specs.Newer.{asks, reportOf}
+use Rattle.claims.specs.Newer.{listedIn, asks, reportOf}
 
 -- parsed into tables P and M, the file f is accepted, and the report and the tables are those of the content c
 abbrev pub ParsesTo : List ℕ → List ℕ → List ℕ → Content → Type 0
@@ -51,10 +51,17 @@ module _ (f P M : List ℕ) (s : Psbt) (g Q N : List ℕ) (u : Psbt) where
   abbrev pub OfOutput : {A : Type 0} → (List ℕ → Held → A) → Type 0
   OfOutput call = (i : ℕ) → call f (heldOutput f P M s i) ≡ call g (heldOutput g Q N u i)
 
-  -- every call answers the same of both, where a map's kind is by ks. A field that has the name of a call of the door is about that call.
-  -- A pair's number in its map counts pairs of unlisted types too, so `nth`, `nth_key` and `nth_value` agree on the pairs that a listing names.
+  -- every call answers the same of both, where a map's kind is by ks. A field with the name of a call of the door is about that call; p, a, l are
+  -- participant, aggregate and leaf hash, n a participant's number or the output's own. A pair's number in its map counts pairs of unlisted types
+  -- too, so `nth`, `nth_key` and `nth_value` agree on the pairs that a listing names, and not by that number.
   pub record SameCalls (ks : List ℕ) : Type 0 where
     pub report : s ≡ u
+    -- what answers without places agree on, the parts that they name agree on
+    pub part-of : (y z : Looked) → answerAt f y ≡ answerAt g z → part f y ≡ part g z
+    -- the pairs of listed types that the global map, an input and an output show
+    pub global-shows : OfMap 0 (λ x h. listedIn GLOBAL (viewOf x h))
+    pub input-shows : OfInput (λ x h. listedIn INPUT (viewOf x h))
+    pub output-shows : OfOutput (λ x h. listedIn OUTPUT (viewOf x h))
     -- of any key and any type that is listed
     pub lookups : (m : ℕ) (key : List ℕ) → asks m ks key ≡ true → (ok : Bool) (l : Length) → OfMap m (bytesBy (λ x h. asked ok l x key h))
     pub input-lookups : (key : List ℕ) → listed INPUT key ≡ true → (ok : Bool) (l : Length) → OfInput (bytesBy (λ x h. asked ok l x key h))

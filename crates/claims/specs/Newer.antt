@@ -7,6 +7,7 @@ use Rattle.format.specs.Tests.{only}
 use Rattle.format.specs.Keys.{keyOf}
 use Rattle.format.specs.Rules.{GLOBAL, INPUT, OUTPUT, listed}
 use Rattle.format.specs.Content.{Pair, Map, Content, mapsOf, psbtOf}
+use Rattle.format.specs.Tables.{View, hides, shows}
 use Rattle.format.specs.Lookups.{Length}
 use Rattle.format.specs.Locks.{In, inOf, decide}
 use Rattle.format.specs.Scripts.{Out, outOf, Given, setGiven}
@@ -42,6 +43,11 @@ pub record AddedFile (c d : Content) : Type 0 where
 -- the pairs whose types are listed for maps of kind k
 unfoldable pub strike : ℕ → List Pair → List Pair
 strike k ps = only (λ p. listed k (p .key)) ps
+
+-- what a map of kind k shows of listed types
+unfoldable pub listedIn : ℕ → View → View
+listedIn k (hides e) = hides e
+listedIn k (shows ps) = shows (strike k ps)
 
 -- a map with these pairs alone
 unfoldable pub strikeMap : ℕ → Map → Map
