@@ -8,7 +8,7 @@ use Rattle.format.specs.Keys.{keyOf}
 use Rattle.format.specs.Content.{Content, mapsOf, psbtOf}
 use Rattle.format.specs.Reading.{accepted, reading}
 use Rattle.format.specs.Parse.{out, parsed}
-use Rattle.format.specs.Tables.{Held, held, heldInput, heldOutput, View, viewOf, view}
+use Rattle.format.specs.Tables.{Held, held, View, viewOf, view}
 use Rattle.format.specs.Lookups.{Length, anyLength, asked, look, list}
 use Rattle.format.specs.Told.{toldWith, toldParsed, toldParse, toldLooked, toldListing}
 use Rattle.format.specs.declared.Psbt.{Psbt}
@@ -21,7 +21,7 @@ use Rattle.laws.proofs.Files.{reading-is}
 use Rattle.laws.proofs.Parsed.{accepted-is}
 use Rattle.laws.proofs.Shown.{accepted-shows}
 use Rattle.claims.specs.Answers.{answerAt, lookIn, utxoAt, scriptAt, listAt, listIn}
-use Rattle.claims.specs.Meaning.{Means}
+use Rattle.claims.specs.Meaning.{Means, ByContent}
 use Rattle.claims.proofs.Shapes.{Sound, held-sound, input-sound, output-sound, asked-by, number-by, count-by, participant-by, utxo-by, script-by, list-by}
 use Rattle.claims.proofs.Views.{input-shows, output-shows}
 
@@ -64,25 +64,23 @@ module _ (f P M : List ℕ) (c : Content) (reads : reading f ≡ accepted c) (s 
   unfolding psbtOf
   outs-count = ap (λ (x : Psbt). x .outputs) report-is ∙ sym (reading-is f c reads .1 .outs#)
 
-  -- map number n is the content's map n, input number i its input i, output number i its output i; beyond them 14
-  pub map-means : (n : ℕ) → Means f (held f P′ M′ s n) (viewBy n (mapsOf c))
-  map-means n = means f _ _ (held-sound f P′ M′ s n) (shown n)
-
-  pub input-means : (i : ℕ) → Means f (heldInput f P′ M′ s i) (viewBy i (c .ins))
-  input-means i = means f _ _ (input-sound f P′ M′ s i) (input-shows f P′ M′ s c shown ins-count outs-count i)
-
-  pub output-means : (i : ℕ) → Means f (heldOutput f P′ M′ s i) (viewBy i (c .outs))
-  output-means i = means f _ _ (output-sound f P′ M′ s i) (output-shows f P′ M′ s c shown ins-count outs-count i)
+  -- over the tables left, every lookup and listing answers by the content
+  pub calls-mean : ByContent f P′ M′ s c
+  calls-mean = record {
+    maps = λ n. means f _ _ (held-sound f P′ M′ s n) (shown n);
+    inputs = λ i. means f _ _ (input-sound f P′ M′ s i) (input-shows f P′ M′ s c shown ins-count outs-count i);
+    outputs = λ i. means f _ _ (output-sound f P′ M′ s i) (output-shows f P′ M′ s c shown ins-count outs-count i);
+  }
 
   -- any typed lookup, in map number n: of the content's pairs the value found, that there is none, or the refusal
   pub field-means : (n : ℕ) (ok : Bool) (l : Length) (key : List ℕ) → answerAt f (asked ok l f key (held f P′ M′ s n)) ≡ lookIn ok l key (viewBy n (mapsOf c))
-  field-means n ok l key = map-means n .field ok l key _ refl
+  field-means n ok l key = calls-mean .maps n .field ok l key _ refl
 
   -- an answer that meets the promise of `get`: the bytes that it names are the value of that key in the content
   pub lookup-means : (n t : ℕ) (d : List ℕ) (r : Looked) → toldLooked r ≡ toldLooked (look f t d (held f P′ M′ s n)) → answerAt f r ≡ lookIn true anyLength (keyOf t d) (viewBy n (mapsOf c))
   unfolding look
-  lookup-means n t d = map-means n .field true anyLength (keyOf t d)
+  lookup-means n t d = calls-mean .maps n .field true anyLength (keyOf t d)
 
   -- an answer that meets the promise of `list`: the pairs that it names are the content's pairs of that type, in order
   pub listing-means : (n t : ℕ) (r : Listing) → toldListing r ≡ toldListing (list f t (held f P′ M′ s n)) → listAt f r (held f P′ M′ s n) ≡ listIn t (viewBy n (mapsOf c))
-  listing-means n t = map-means n .listing t
+  listing-means n t = calls-mean .maps n .listing t

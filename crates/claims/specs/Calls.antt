@@ -33,7 +33,7 @@ bytesBy call f h = answerAt f (call f h)
 abbrev pub pairsBy : ℕ → List ℕ → Held → View
 pairsBy t f h = listAt f (list f t h) h
 
--- pair number j of those, as `nth`, `nth_key` and `nth_value` hand it out
+-- pair number j of those: the key and the value that `nth`, `nth_key` and `nth_value` hand out
 abbrev pub nthBy : ℕ → ℕ → List ℕ → Held → Answer Pair
 nthBy t j f h = nthOfListing f j (list f t h) h
 
