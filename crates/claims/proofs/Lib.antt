@@ -1,4 +1,7 @@
+pub mod Shapes
+pub mod Views
 pub mod Strikes
+pub mod Agree
 pub mod Newers
 pub mod Calls
 pub mod Asked
