@@ -7,7 +7,7 @@ use lib.ListN.{length}
 use Rattle.format.specs.Keys.{keyOf}
 use Rattle.format.specs.Content.{Content, mapsOf, psbtOf}
 use Rattle.format.specs.Reading.{accepted, reading}
-use Rattle.format.specs.Parse.{out, parsed}
+use Rattle.format.specs.Parse.{parsed}
 use Rattle.format.specs.Tables.{Held, held, View, viewOf, view}
 use Rattle.format.specs.Lookups.{Length, anyLength, asked, look, list}
 use Rattle.format.specs.Told.{toldWith, toldParsed, toldParse, toldLooked, toldListing}
@@ -15,10 +15,10 @@ use Rattle.format.specs.declared.Psbt.{Psbt}
 use Rattle.format.specs.declared.Parsed.the-variants.{Accepted}
 use Rattle.format.specs.declared.Looked.{Looked}
 use Rattle.format.specs.declared.Listing.{Listing}
-use Rattle.format.proofs.Told.{looked-one, numbered-one, listing-one, utxo-one, script-one, parse-out-one}
+use Rattle.format.proofs.Told.{looked-one, numbered-one, listing-one, utxo-one, script-one}
 use Rattle.laws.specs.Shown.{viewBy, Accepts}
 use Rattle.laws.proofs.Files.{reading-is}
-use Rattle.laws.proofs.Parsed.{accepted-is}
+use Rattle.laws.proofs.Promised.{promised-accepts}
 use Rattle.laws.proofs.Shown.{accepted-shows}
 use Rattle.claims.specs.Answers.{answerAt, lookIn, utxoAt, scriptAt, listAt, listIn}
 use Rattle.claims.specs.Meaning.{Means, ByContent}
@@ -41,8 +41,7 @@ means f h v s e = subst (Means f h) e (record {
 module _ (f P M : List ℕ) (c : Content) (reads : reading f ≡ accepted c) (s : Psbt) (p m : ℕ) (P′ M′ : List ℕ)
     (parses : toldWith (toldParsed (Accepted s p m)) P′ M′ ≡ toldParse (parsed f P M)) where
   accepts : Accepts f P M s p m P′ M′
-  unfolding toldParse
-  accepts = accepted-is f P M s p m P′ M′ (sym (parse-out-one (out (Accepted s p m) P′ M′) (parsed f P M) parses))
+  accepts = promised-accepts f P M s p m P′ M′ parses
 
   content-is : accepts .content ≡ c
   content-is =
