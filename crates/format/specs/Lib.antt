@@ -15,4 +15,10 @@ pub mod Locks
 pub mod Scripts
 pub mod Transaction
 pub mod Told
+pub mod Rows
+pub mod Unfolds
+pub mod ExampleTests
+pub mod ExampleNumbers
+pub mod ExampleCompact
+pub mod ExampleKeys
 pub mod Examples
