@@ -21,4 +21,11 @@ pub mod ExampleTests
 pub mod ExampleNumbers
 pub mod ExampleCompact
 pub mod ExampleKeys
+pub mod ExampleSizes
+pub mod ExampleRules
+pub mod ExampleContent
+pub mod Counting
+pub mod ExampleEntries
+pub mod ExampleTables
+pub mod ExampleLookups
 pub mod Examples
