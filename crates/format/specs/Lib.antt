@@ -28,4 +28,8 @@ pub mod Counting
 pub mod ExampleEntries
 pub mod ExampleTables
 pub mod ExampleLookups
+pub mod ExampleFields
+pub mod ExampleSilentPayments
+pub mod ExampleMusig
+pub mod ExampleUtxo
 pub mod Examples
