@@ -13,7 +13,7 @@ use Rattle.format.specs.declared.Ruled.{Ruled}
 use Rattle.format.specs.declared.Ruled.the-variants.{Passed, Refused}
 use Rattle.format.specs.declared.Parsed.the-variants.{Accepted}
 
--- a pair of a type without key data, and of one with a byte of it
+-- a pair of a type without key data
 abbrev bare : ℕ → List ℕ → Pair
 bare t v = record { klen = 1 ∷ []; key = t ∷ []; vlen = []; value = v }
 

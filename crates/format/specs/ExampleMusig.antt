@@ -147,6 +147,7 @@ keyCounts =
     is (toldNumbered (participantCount (K.At 3 33))) (number 1)
     ∷ is (toldNumbered (participantCount (K.At 3 66))) (number 2)
     ∷ is (toldNumbered (participantCount (K.At 3 99))) (number 3)
+    ∷ is (toldNumbered (participantCount (K.At 3 1056))) (number 32)
     ∷ is (toldNumbered (participantCount K.Absent)) nothing
     ∷ is (toldNumbered (participantCount (K.Refused BadValue))) (refused 7)
     ∷ is (toldNumbered (participantCount (inputParticipants counting (bytesAt 27 33) [] (inputPair 0 0x1a 34 3 66)))) (number 2)
@@ -172,6 +173,8 @@ keysByNumber =
     ∷ is (toldLooked (participant 2 (K.At 3 66))) (refused 14)
     ∷ is (toldLooked (participant 2 (K.At 3 99))) (at 69 33)
     ∷ is (toldLooked (participant 3 (K.At 3 99))) (refused 14)
+    ∷ is (toldLooked (participant 31 (K.At 3 1056))) (at 1026 33)
+    ∷ is (toldLooked (participant 32 (K.At 3 1056))) (refused 14)
     ∷ is (toldLooked (participant 1 (inputParticipants counting (bytesAt 27 33) [] (inputPair 0 0x1a 34 3 66)))) (at 36 33)
     ∷ is (toldLooked (participant 2 (outputParticipants counting (bytesAt 9 33) (outputPair 0 0x08 34 3 99)))) (at 69 33)
     -- past the list

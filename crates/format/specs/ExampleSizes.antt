@@ -21,7 +21,7 @@ around k t n m = sizes k t n m ∷ sizes k t n (m - 1) ∷ sizes k t n (m + 1) �
 abbrev right : List Ruled
 right = Passed ∷ bad ∷ bad ∷ bad ∷ []
 
--- none of them passes, or all do
+-- none of them passes
 abbrev wrong : List Ruled
 wrong = bad ∷ bad ∷ bad ∷ bad ∷ []
 
