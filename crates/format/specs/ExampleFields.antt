@@ -1,13 +1,15 @@
--- Computed examples of every typed field of an input and of an output.
+-- Computed examples of every typed field of an input and of an output, and of those of file F.
 use Prim.Native.Nat.{ℕ, _+_, _-_}
 use mathlib.Core.Path.{refl}
 use mathlib.Core.List.{List, [], _∷_}
 use Rattle.format.specs.Rows.{Row, is, Hold}
 use Rattle.format.specs.Unfolds.{lookups}
 use Rattle.format.specs.Counting.{counting, inputPair, outputPair, at, number, nothing, refused}
-use Rattle.format.specs.Tables.{Held}
+use Rattle.format.specs.Examples.{fileF, pairsF, mapsF, psbtF}
+use Rattle.format.specs.Tables.{Held, heldInput, heldOutput}
+use Rattle.format.specs.Lookups.{list}
 use Rattle.format.specs.Fields.{nonWitnessUtxo, witnessUtxo, sighashType, redeemScript, witnessScript, finalScriptsig, finalScriptwitness, previousTxid, outputIndex, sequence, requiredTimeLocktime, requiredHeightLocktime, spTweak, outRedeemScript, outWitnessScript, amount, script, spV0Info, spV0Label}
-use Rattle.format.specs.Told.{Told, toldLooked, toldNumbered}
+use Rattle.format.specs.Told.{Told, toldLooked, toldNumbered, toldListing}
 use Rattle.format.specs.declared.Looked.{Looked}
 use Rattle.format.specs.declared.Numbered.{Numbered}
 
@@ -72,3 +74,35 @@ ofOutput =
 pub output-fields : Hold ofOutput
 unfolding lookups ofOutput
 output-fields = refl
+
+-- input and output number i of file F, with the tables that its parse leaves
+abbrev inputF : ℕ → Held
+inputF i = heldInput fileF pairsF mapsF psbtF i
+
+-- output number i of file F
+abbrev outputF : ℕ → Held
+outputF i = heldOutput fileF pairsF mapsF psbtF i
+
+-- fields of F, and listings of its maps
+unfoldable pub ofF : List (Row Told)
+ofF =
+    is (toldLooked (previousTxid fileF (inputF 0))) (at 31 32)
+    ∷ is (toldNumbered (outputIndex fileF (inputF 0))) (number 0)
+    ∷ is (toldNumbered (sequence fileF (inputF 0))) nothing
+    ∷ is (toldNumbered (requiredHeightLocktime fileF (inputF 0))) nothing
+    ∷ is (toldLooked (witnessUtxo fileF (inputF 0))) nothing
+    ∷ is (toldNumbered (outputIndex fileF (inputF 1))) (refused 14)
+    ∷ is (toldNumbered (amount fileF (outputF 0))) (number 1000)
+    ∷ is (toldLooked (script fileF (outputF 0))) (at 85 1)
+    ∷ is (toldLooked (spV0Info fileF (outputF 0))) nothing
+    ∷ is (toldLooked (script fileF (outputF 1))) (refused 14)
+    ∷ is (toldListing (list fileF 0x0f (inputF 0))) (at 1 1)
+    ∷ is (toldListing (list fileF 0x10 (inputF 0))) (at 2 0)
+    ∷ is (toldListing (list fileF 0x03 (outputF 0))) (at 0 1)
+    ∷ is (toldListing (list fileF 0x00 (outputF 0))) (at 0 0)
+    ∷ []
+
+-- so they are told
+pub fields-of-F : Hold ofF
+unfolding lookups ofF
+fields-of-F = refl
