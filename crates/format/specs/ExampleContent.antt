@@ -92,6 +92,8 @@ reported =
     ∷ is (report (bare 0x02 (0 ∷ 0 ∷ 0 ∷ 0x80 ∷ []) ∷ keyed 0x03 (1 ∷ []) ∷ keyed 0x04 (1 ∷ []) ∷ keyed 0x05 (1 ∷ []) ∷ keyed 0x06 (1 ∷ []) ∷ [])) (reports (int (negsuc 0x7fff_ffff)) none none 0 0)
     ∷ is (report (bare 0x03 (9 ∷ 0 ∷ 0 ∷ 0 ∷ []) ∷ [])) (reports (nat 0) (nat 9) none 0 0)
     ∷ is (report (bare 0x06 (3 ∷ []) ∷ [])) (reports (nat 0) none (nat 3) 0 0)
+    -- a count that can't be read, which no accepted map has, is 0
+    ∷ is (report (bare 0x04 [] ∷ bare 0x05 (0xfd ∷ []) ∷ [])) (reports (nat 0) none none 0 0)
     ∷ []
 
 -- so they are reported

@@ -17,6 +17,8 @@ taken =
     ∷ is (dataOf (0x1b ∷ 2 ∷ 3 ∷ [])) (2 ∷ 3 ∷ [])
     ∷ is (dataOf (0x04 ∷ [])) []
     ∷ is (typeOf (0xfb ∷ []) ∷ []) (0xfb ∷ [])
+    -- an empty key, which no map has
+    ∷ is (typeOf [] ∷ dataOf []) (0 ∷ [])
     ∷ is (keyOf 0x04 []) (0x04 ∷ [])
     ∷ is (keyOf 0x1d (2 ∷ 3 ∷ [])) (0x1d ∷ 2 ∷ 3 ∷ [])
     ∷ []

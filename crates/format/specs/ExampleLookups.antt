@@ -7,7 +7,7 @@ use Rattle.format.specs.Rows.{Row, is, Hold}
 use Rattle.format.specs.Unfolds.{lookups}
 use Rattle.format.specs.Counting.{counting, entry, at, number, nothing, refused}
 use Rattle.format.specs.Tables.{Held, no, holds}
-use Rattle.format.specs.Lookups.{Length, anyLength, exactly, keyList, lengthFits, asked, look, part, numberAt, list, nth, keyPart, valuePart}
+use Rattle.format.specs.Lookups.{Length, anyLength, exactly, keyList, lengthFits, ofLength, asked, look, part, numberAt, list, nth, keyPart, valuePart}
 use Rattle.format.specs.Told.{Told, told, nat, toldLooked, toldNumbered, toldListing, toldNth}
 use Rattle.format.specs.declared.PsbtError.the-variants.{BadValue, OutOfRange, BadIndex}
 use Rattle.format.specs.declared.Looked.the-variants as K
@@ -65,6 +65,9 @@ askings =
     -- absence whatever length would be right
     ∷ is (toldLooked (asked true (exactly 3) counting (4 ∷ 6 ∷ []) four)) nothing
     ∷ is (toldLooked (asked true keyList counting (4 ∷ 6 ∷ []) four)) nothing
+    -- a lookup's own refusal and its absence stay, whatever length would be right
+    ∷ is (toldLooked (ofLength (exactly 3) (K.Refused OutOfRange))) (refused 14)
+    ∷ is (toldLooked (ofLength (exactly 3) K.Absent)) nothing
     -- no map has an empty key
     ∷ is (toldLooked (asked true anyLength counting [] four)) nothing
     ∷ is (toldLooked (asked true anyLength counting [] (holds []))) nothing
@@ -89,9 +92,13 @@ lengths =
     ∷ is (lengthFits (exactly 0) 0) true
     ∷ is (lengthFits keyList 0) false
     ∷ is (lengthFits keyList 1) false
+    ∷ is (lengthFits keyList 3) false
+    ∷ is (lengthFits keyList 11) false
+    ∷ is (lengthFits keyList 22) false
     ∷ is (lengthFits keyList 32) false
     ∷ is (lengthFits keyList 33) true
     ∷ is (lengthFits keyList 34) false
+    ∷ is (lengthFits keyList 44) false
     ∷ is (lengthFits keyList 65) false
     ∷ is (lengthFits keyList 66) true
     ∷ is (lengthFits keyList 67) false

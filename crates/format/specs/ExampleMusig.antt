@@ -1,78 +1,55 @@
 -- Computed examples of MuSig2 lookups: nonces, partial signatures, participants.
+use Prim.Native.Nat.{ℕ, _+_, _-_}
 use mathlib.Core.Path.{refl}
-use mathlib.Core.List.{List, [], _∷_}
+use mathlib.Core.List.{List, [], _∷_, _++_}
 use Rattle.format.specs.Rows.{Row, is, Hold}
 use Rattle.format.specs.Unfolds.{lookups}
 use Rattle.format.specs.Counting.{counting, bytesAt, inputPair, outputPair, at, number, nothing, refused}
+use Rattle.format.specs.Tables.{Held}
 use Rattle.format.specs.Fields.{pubNonce, partialSig, inputParticipants, outputParticipants, participantCount, participant}
 use Rattle.format.specs.Told.{Told, toldLooked, toldNumbered}
 use Rattle.format.specs.declared.PsbtError.the-variants.{BadValue, BadIndex}
+use Rattle.format.specs.declared.Looked.{Looked}
 use Rattle.format.specs.declared.Looked.the-variants as K
 
--- participant, aggregate and leaf hash stand behind the type in the counting file; the value begins at 5
-unfoldable pub signings : List (Row Told)
-signings =
-    -- pubNonce: type 1b, 66 bytes: without leaf hash, with one; one byte less, one more
-    is (toldLooked (pubNonce counting (bytesAt 28 33) (bytesAt 61 33) [] (inputPair 0 0x1b 67 5 66))) (at 5 66)
-    ∷ is (toldLooked (pubNonce counting (bytesAt 28 33) (bytesAt 61 33) (bytesAt 94 32) (inputPair 0 0x1b 99 5 66))) (at 5 66)
-    ∷ is (toldLooked (pubNonce counting (bytesAt 28 33) (bytesAt 61 33) [] (inputPair 0 0x1b 67 5 65))) (refused 7)
-    ∷ is (toldLooked (pubNonce counting (bytesAt 28 33) (bytesAt 61 33) [] (inputPair 0 0x1b 67 5 67))) (refused 7)
-    ∷ is (toldLooked (pubNonce counting (bytesAt 28 33) (bytesAt 61 33) (bytesAt 94 32) (inputPair 0 0x1b 99 5 65))) (refused 7)
-    ∷ is (toldLooked (pubNonce counting (bytesAt 28 33) (bytesAt 61 33) (bytesAt 94 32) (inputPair 0 0x1b 99 5 67))) (refused 7)
+-- a lookup of type t whose value is w bytes: participant, aggregate and leaf hash stand behind the type in the counting file, the value begins at 5
+abbrev signing : (List ℕ → List ℕ → List ℕ → List ℕ → Held → Looked) → ℕ → ℕ → List (Row Told)
+signing field t w =
+    -- without leaf hash, with one; one byte less, one more
+    is (toldLooked (field counting (bytesAt (t + 1) 33) (bytesAt (t + 34) 33) [] (inputPair 0 t 67 5 w))) (at 5 w)
+    ∷ is (toldLooked (field counting (bytesAt (t + 1) 33) (bytesAt (t + 34) 33) (bytesAt (t + 67) 32) (inputPair 0 t 99 5 w))) (at 5 w)
+    ∷ is (toldLooked (field counting (bytesAt (t + 1) 33) (bytesAt (t + 34) 33) [] (inputPair 0 t 67 5 (w - 1)))) (refused 7)
+    ∷ is (toldLooked (field counting (bytesAt (t + 1) 33) (bytesAt (t + 34) 33) [] (inputPair 0 t 67 5 (w + 1)))) (refused 7)
+    ∷ is (toldLooked (field counting (bytesAt (t + 1) 33) (bytesAt (t + 34) 33) (bytesAt (t + 67) 32) (inputPair 0 t 99 5 (w - 1)))) (refused 7)
+    ∷ is (toldLooked (field counting (bytesAt (t + 1) 33) (bytesAt (t + 34) 33) (bytesAt (t + 67) 32) (inputPair 0 t 99 5 (w + 1)))) (refused 7)
     -- absent: with a leaf hash only, without one only, another type, participant and aggregate exchanged
-    ∷ is (toldLooked (pubNonce counting (bytesAt 28 33) (bytesAt 61 33) [] (inputPair 0 0x1b 99 5 66))) nothing
-    ∷ is (toldLooked (pubNonce counting (bytesAt 28 33) (bytesAt 61 33) (bytesAt 94 32) (inputPair 0 0x1b 67 5 66))) nothing
-    ∷ is (toldLooked (pubNonce counting (bytesAt 28 33) (bytesAt 61 33) [] (inputPair 0 0x1c 67 5 66))) nothing
-    ∷ is (toldLooked (pubNonce counting (bytesAt 61 33) (bytesAt 28 33) [] (inputPair 0 0x1b 67 5 66))) nothing
+    ∷ is (toldLooked (field counting (bytesAt (t + 1) 33) (bytesAt (t + 34) 33) [] (inputPair 0 t 99 5 w))) nothing
+    ∷ is (toldLooked (field counting (bytesAt (t + 1) 33) (bytesAt (t + 34) 33) (bytesAt (t + 67) 32) (inputPair 0 t 67 5 w))) nothing
+    ∷ is (toldLooked (field counting (bytesAt (t + 1) 33) (bytesAt (t + 34) 33) [] (inputPair 0 (t + 1) 67 5 w))) nothing
+    ∷ is (toldLooked (field counting (bytesAt (t + 34) 33) (bytesAt (t + 1) 33) [] (inputPair 0 t 67 5 w))) nothing
     -- another length of a part, though the joined key is there
-    ∷ is (toldLooked (pubNonce counting (bytesAt 28 32) (bytesAt 60 33) [] (inputPair 0 0x1b 66 5 66))) (refused 7)
-    ∷ is (toldLooked (pubNonce counting (bytesAt 28 34) (bytesAt 62 33) [] (inputPair 0 0x1b 68 5 66))) (refused 7)
-    ∷ is (toldLooked (pubNonce counting (bytesAt 28 33) (bytesAt 61 32) [] (inputPair 0 0x1b 66 5 66))) (refused 7)
-    ∷ is (toldLooked (pubNonce counting (bytesAt 28 33) (bytesAt 61 34) [] (inputPair 0 0x1b 68 5 66))) (refused 7)
-    ∷ is (toldLooked (pubNonce counting (bytesAt 28 32) (bytesAt 60 34) [] (inputPair 0 0x1b 67 5 66))) (refused 7)
-    ∷ is (toldLooked (pubNonce counting (bytesAt 28 34) (bytesAt 62 32) [] (inputPair 0 0x1b 67 5 66))) (refused 7)
-    ∷ is (toldLooked (pubNonce counting (bytesAt 28 66) [] [] (inputPair 0 0x1b 67 5 66))) (refused 7)
-    ∷ is (toldLooked (pubNonce counting (bytesAt 28 33) (bytesAt 61 33) (bytesAt 94 1) (inputPair 0 0x1b 68 5 66))) (refused 7)
-    ∷ is (toldLooked (pubNonce counting (bytesAt 28 33) (bytesAt 61 33) (bytesAt 94 31) (inputPair 0 0x1b 98 5 66))) (refused 7)
-    ∷ is (toldLooked (pubNonce counting (bytesAt 28 33) (bytesAt 61 33) (bytesAt 94 33) (inputPair 0 0x1b 100 5 66))) (refused 7)
-    ∷ is (toldLooked (pubNonce counting (bytesAt 28 33) (bytesAt 61 32) (bytesAt 93 33) (inputPair 0 0x1b 99 5 66))) (refused 7)
-    ∷ is (toldLooked (pubNonce counting [] [] [] (inputPair 0 0x1b 1 5 66))) (refused 7)
+    ∷ is (toldLooked (field counting (bytesAt (t + 1) 32) (bytesAt (t + 33) 33) [] (inputPair 0 t 66 5 w))) (refused 7)
+    ∷ is (toldLooked (field counting (bytesAt (t + 1) 34) (bytesAt (t + 35) 33) [] (inputPair 0 t 68 5 w))) (refused 7)
+    ∷ is (toldLooked (field counting (bytesAt (t + 1) 33) (bytesAt (t + 34) 32) [] (inputPair 0 t 66 5 w))) (refused 7)
+    ∷ is (toldLooked (field counting (bytesAt (t + 1) 33) (bytesAt (t + 34) 34) [] (inputPair 0 t 68 5 w))) (refused 7)
+    ∷ is (toldLooked (field counting (bytesAt (t + 1) 32) (bytesAt (t + 33) 34) [] (inputPair 0 t 67 5 w))) (refused 7)
+    ∷ is (toldLooked (field counting (bytesAt (t + 1) 34) (bytesAt (t + 35) 32) [] (inputPair 0 t 67 5 w))) (refused 7)
+    ∷ is (toldLooked (field counting (bytesAt (t + 1) 66) [] [] (inputPair 0 t 67 5 w))) (refused 7)
+    ∷ is (toldLooked (field counting (bytesAt (t + 1) 33) (bytesAt (t + 34) 33) (bytesAt (t + 67) 1) (inputPair 0 t 68 5 w))) (refused 7)
+    ∷ is (toldLooked (field counting (bytesAt (t + 1) 33) (bytesAt (t + 34) 33) (bytesAt (t + 67) 31) (inputPair 0 t 98 5 w))) (refused 7)
+    ∷ is (toldLooked (field counting (bytesAt (t + 1) 33) (bytesAt (t + 34) 33) (bytesAt (t + 67) 33) (inputPair 0 t 100 5 w))) (refused 7)
+    ∷ is (toldLooked (field counting (bytesAt (t + 1) 33) (bytesAt (t + 34) 32) (bytesAt (t + 66) 33) (inputPair 0 t 99 5 w))) (refused 7)
+    ∷ is (toldLooked (field counting [] [] [] (inputPair 0 t 1 5 w))) (refused 7)
     -- the map before the key, the key before absence
-    ∷ is (toldLooked (pubNonce counting (bytesAt 28 33) (bytesAt 61 33) [] (inputPair 1 0x1b 67 5 66))) (refused 14)
-    ∷ is (toldLooked (pubNonce counting (bytesAt 28 33) [] [] (inputPair 1 0x1b 67 5 66))) (refused 14)
-    ∷ is (toldLooked (pubNonce counting (bytesAt 28 33) [] [] (inputPair 0 0x1b 0 5 66))) (refused 24)
-    ∷ is (toldLooked (pubNonce counting (bytesAt 28 33) (bytesAt 61 33) (bytesAt 94 31) (inputPair 0 0x1b 67 5 66))) (refused 7)
-    -- partialSig: type 1c, 32 bytes: without leaf hash, with one; one byte less, one more
-    ∷ is (toldLooked (partialSig counting (bytesAt 29 33) (bytesAt 62 33) [] (inputPair 0 0x1c 67 5 32))) (at 5 32)
-    ∷ is (toldLooked (partialSig counting (bytesAt 29 33) (bytesAt 62 33) (bytesAt 95 32) (inputPair 0 0x1c 99 5 32))) (at 5 32)
-    ∷ is (toldLooked (partialSig counting (bytesAt 29 33) (bytesAt 62 33) [] (inputPair 0 0x1c 67 5 31))) (refused 7)
-    ∷ is (toldLooked (partialSig counting (bytesAt 29 33) (bytesAt 62 33) [] (inputPair 0 0x1c 67 5 33))) (refused 7)
-    ∷ is (toldLooked (partialSig counting (bytesAt 29 33) (bytesAt 62 33) (bytesAt 95 32) (inputPair 0 0x1c 99 5 31))) (refused 7)
-    ∷ is (toldLooked (partialSig counting (bytesAt 29 33) (bytesAt 62 33) (bytesAt 95 32) (inputPair 0 0x1c 99 5 33))) (refused 7)
-    -- absent: with a leaf hash only, without one only, another type, participant and aggregate exchanged
-    ∷ is (toldLooked (partialSig counting (bytesAt 29 33) (bytesAt 62 33) [] (inputPair 0 0x1c 99 5 32))) nothing
-    ∷ is (toldLooked (partialSig counting (bytesAt 29 33) (bytesAt 62 33) (bytesAt 95 32) (inputPair 0 0x1c 67 5 32))) nothing
-    ∷ is (toldLooked (partialSig counting (bytesAt 29 33) (bytesAt 62 33) [] (inputPair 0 0x1d 67 5 32))) nothing
-    ∷ is (toldLooked (partialSig counting (bytesAt 62 33) (bytesAt 29 33) [] (inputPair 0 0x1c 67 5 32))) nothing
-    -- another length of a part, though the joined key is there
-    ∷ is (toldLooked (partialSig counting (bytesAt 29 32) (bytesAt 61 33) [] (inputPair 0 0x1c 66 5 32))) (refused 7)
-    ∷ is (toldLooked (partialSig counting (bytesAt 29 34) (bytesAt 63 33) [] (inputPair 0 0x1c 68 5 32))) (refused 7)
-    ∷ is (toldLooked (partialSig counting (bytesAt 29 33) (bytesAt 62 32) [] (inputPair 0 0x1c 66 5 32))) (refused 7)
-    ∷ is (toldLooked (partialSig counting (bytesAt 29 33) (bytesAt 62 34) [] (inputPair 0 0x1c 68 5 32))) (refused 7)
-    ∷ is (toldLooked (partialSig counting (bytesAt 29 32) (bytesAt 61 34) [] (inputPair 0 0x1c 67 5 32))) (refused 7)
-    ∷ is (toldLooked (partialSig counting (bytesAt 29 34) (bytesAt 63 32) [] (inputPair 0 0x1c 67 5 32))) (refused 7)
-    ∷ is (toldLooked (partialSig counting (bytesAt 29 66) [] [] (inputPair 0 0x1c 67 5 32))) (refused 7)
-    ∷ is (toldLooked (partialSig counting (bytesAt 29 33) (bytesAt 62 33) (bytesAt 95 1) (inputPair 0 0x1c 68 5 32))) (refused 7)
-    ∷ is (toldLooked (partialSig counting (bytesAt 29 33) (bytesAt 62 33) (bytesAt 95 31) (inputPair 0 0x1c 98 5 32))) (refused 7)
-    ∷ is (toldLooked (partialSig counting (bytesAt 29 33) (bytesAt 62 33) (bytesAt 95 33) (inputPair 0 0x1c 100 5 32))) (refused 7)
-    ∷ is (toldLooked (partialSig counting (bytesAt 29 33) (bytesAt 62 32) (bytesAt 94 33) (inputPair 0 0x1c 99 5 32))) (refused 7)
-    ∷ is (toldLooked (partialSig counting [] [] [] (inputPair 0 0x1c 1 5 32))) (refused 7)
-    -- the map before the key, the key before absence
-    ∷ is (toldLooked (partialSig counting (bytesAt 29 33) (bytesAt 62 33) [] (inputPair 1 0x1c 67 5 32))) (refused 14)
-    ∷ is (toldLooked (partialSig counting (bytesAt 29 33) [] [] (inputPair 1 0x1c 67 5 32))) (refused 14)
-    ∷ is (toldLooked (partialSig counting (bytesAt 29 33) [] [] (inputPair 0 0x1c 0 5 32))) (refused 24)
-    ∷ is (toldLooked (partialSig counting (bytesAt 29 33) (bytesAt 62 33) (bytesAt 95 31) (inputPair 0 0x1c 67 5 32))) (refused 7)
+    ∷ is (toldLooked (field counting (bytesAt (t + 1) 33) (bytesAt (t + 34) 33) [] (inputPair 1 t 67 5 w))) (refused 14)
+    ∷ is (toldLooked (field counting (bytesAt (t + 1) 33) [] [] (inputPair 1 t 67 5 w))) (refused 14)
+    ∷ is (toldLooked (field counting (bytesAt (t + 1) 33) [] [] (inputPair 0 t 0 5 w))) (refused 24)
+    ∷ is (toldLooked (field counting (bytesAt (t + 1) 33) (bytesAt (t + 34) 33) (bytesAt (t + 67) 31) (inputPair 0 t 67 5 w))) (refused 7)
     ∷ []
+
+-- nonces have 66 bytes, partial signatures 32
+unfoldable pub signings : List (Row Told)
+signings = signing pubNonce 0x1b 66 ++ signing partialSig 0x1c 32
 
 -- so they are told
 pub nonces-and-signatures : Hold signings
