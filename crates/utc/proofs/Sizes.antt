@@ -1,12 +1,11 @@
--- How long a date's text is: two digits for each number but the year.
-use Prim.Native.Nat.{ℕ, zero, suc, _+_, _-_, _*_, _/_, _%_, _^_, _≤_, _<_}
+-- How long a date's text is: two digits for each number but the year, which has at most 20.
+use Prim.Native.Nat.{ℕ, zero, suc, _+_, _-_, _*_, _/_, _%_, _≤_, _<_}
 use mathlib.Core.List.{List}
 use native.Mathlib.Omega.{arith}
 use borrow.Author.Tests.{leb-true, ltb-true}
 use lib.Dec.{leb, ltb, eqb}
 use lib.ListN.{length, length-append}
 use Rattle.format.proofs.Tests.{pick-by}
-use Rattle.text.specs.Spelled.{decimal}
 use Rattle.text.proofs.Sizes.{decimal-most, decimal-few}
 use Rattle.utc.specs.declared.Stand.{Stand}
 use Rattle.utc.specs.Dates.{leap, yearLength, isShort, monthLength, yearFrom, yearOf, monthFrom, monthOf, twoDigits, ymdText, monthText, dayText, hourText, dateText}
@@ -18,20 +17,20 @@ unfolding twoDigits
 two-most n h =
     pick-by (λ (l : List ℕ). length l ≤ 2) (ltb n 10) _ _ (λ q. omega (arith, decimal-few 0 n (ltb-true n 10 q))) (λ q. decimal-few 1 n h)
 
--- the year, by the years that may pass, and its day
+-- the day of a year, by the years that may pass
 year-most : (y : ℕ) → yearLength y ≤ 366
 unfolding yearLength
 year-most y = pick-by (λ (n : ℕ). n ≤ 366) (leap y) 366 365 (λ h. omega arith) (λ h. omega arith)
 
-year-from : (n y d : ℕ) → d ≤ (n + 1) * 365 → (yearFrom n y d .number ≤ y + n) × (yearFrom n y d .day ≤ 366)
+year-from : (n y d : ℕ) → d ≤ (n + 1) * 365 → yearFrom n y d .day ≤ 366
 unfolding yearFrom
-year-from zero y d h = (omega arith, omega arith)
+year-from zero y d h = omega arith
 year-from (suc n) y d h =
-    pick-by (λ (s : Stand). (s .number ≤ y + suc n) × (s .day ≤ 366)) (leb d (yearLength y)) _ _
-    (λ q. (omega arith, omega (arith, leb-true d (yearLength y) q, year-most y)))
-    (λ q. let i = year-from n (y + 1) (d - yearLength y) (omega (arith, year-least y)) in (omega (arith, i .0), i .1))
+    pick-by (λ (s : Stand). s .day ≤ 366) (leb d (yearLength y)) _ _
+    (λ q. omega (arith, leb-true d (yearLength y) q, year-most y))
+    (λ q. year-from n (y + 1) (d - yearLength y) (omega (arith, year-least y)))
 
-year-of : (d : ℕ) → (yearOf d .number ≤ 1970 + d / 365) × (yearOf d .day ≤ 366)
+year-of : (d : ℕ) → yearOf d .day ≤ 366
 unfolding yearOf
 year-of d = year-from (d / 365) 1970 d (omega arith)
 
@@ -58,27 +57,19 @@ month-of : (y d : ℕ) → d ≤ 366 → (monthOf y d .number ≤ 12) × (monthO
 unfolding monthOf
 month-of y d h = month-from y 11 1 d (omega arith)
 
--- the text but for its year
-day-by : (d : ℕ) → length (dayText d) ≤ length (decimal (yearOf d .number)) + 6
+-- a day, an hour, and both
+day-most : (d : ℕ) → length (dayText d) ≤ 26
 unfolding dayText monthText ymdText
-day-by d =
-    let m = month-of (yearOf d .number) (yearOf d .day) (year-of d .1) in
-    simp length-append (omega (arith, two-most (monthOf (yearOf d .number) (yearOf d .day) .number) (omega (arith, m .0)), two-most (monthOf (yearOf d .number) (yearOf d .day) .day) (omega (arith, m .1))))
+day-most d =
+    let m = month-of (yearOf d .number) (yearOf d .day) (year-of d) in
+    let a = two-most (monthOf (yearOf d .number) (yearOf d .day) .number) (omega (arith, m .0)) in
+    let b = two-most (monthOf (yearOf d .number) (yearOf d .day) .day) (omega (arith, m .1)) in
+    simp length-append (omega (arith, decimal-most (yearOf d .number), a, b))
 
-hour-by : (s : ℕ) → length (hourText s) ≤ 8
+hour-most : (s : ℕ) → length (hourText s) ≤ 8
 unfolding hourText
-hour-by s =
-    simp length-append (omega (arith, two-most (s / 3600 % 24) (omega arith), two-most (s / 60 % 60) (omega arith), two-most (s % 60) (omega arith)))
+hour-most s = simp length-append (omega (arith, two-most (s / 3600 % 24) (omega arith), two-most (s / 60 % 60) (omega arith), two-most (s % 60) (omega arith)))
 
-date-by : (s : ℕ) → length (dateText s) ≤ length (decimal (yearOf (s / 86400 + 1) .number)) + 19
-unfolding dateText
-date-by s = simp length-append (omega (arith, day-by (s / 86400 + 1), hour-by s))
-
--- the date of any number, and of a number of 32 bits
 pub date-most : (s : ℕ) → length (dateText s) ≤ 39
-date-most s = omega (arith, date-by s, decimal-most (yearOf (s / 86400 + 1) .number))
-
-pub date-few : (s : ℕ) → s < 2 ^ 32 → length (dateText s) ≤ 23
-date-few s h =
-    let y : yearOf (s / 86400 + 1) .number < 10 ^ 4 = omega (arith, year-of (s / 86400 + 1) .0) in
-    omega (arith, date-by s, decimal-few 3 (yearOf (s / 86400 + 1) .number) y)
+unfolding dateText
+date-most s = simp length-append (omega (arith, day-most (s / 86400 + 1), hour-most s))
