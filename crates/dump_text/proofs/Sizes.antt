@@ -5,7 +5,7 @@ use Prim.Native.Nat.{ℕ, suc, _+_, _-_, _*_, _≤_, _<_}
 use native.Mathlib.Omega.{arith}
 use borrow.Author.Tests.{leb-true, ltb-false}
 use lib.Dec.{leb, ltb}
-use lib.ListN.{length, drop, length-append}
+use lib.ListN.{length, take, drop, length-append}
 use lib.Seq.{take-append-seam}
 use Rattle.format.specs.Keys.{typeOf, dataOf}
 use Rattle.format.specs.Content.{Pair, Map, Content, mapsOf, pairBytes, pairsBytes, mapBytes, mapsBytes, bytes, psbtOf}
@@ -29,7 +29,9 @@ use Rattle.laws.specs.Rooms.{pairs#, begun#, answer}
 use Rattle.laws.proofs.Files.{reading-is, one-plus-counts}
 use Rattle.laws.proofs.Parsed.{accepted-is}
 use Rattle.laws.proofs.Rooms.{room-accepts, accepted-roomy}
+use Rattle.text.specs.Spots.{spot, lay}
 use Rattle.text.specs.Spelled.{hexByte, hexOrDash}
+use Rattle.text.proofs.Lays.{front-ends, front-whole}
 use Rattle.text.proofs.Rooms.{room}
 use Rattle.text.proofs.Sizes.{hex-most, decimal-most, decimal-few, signed-most}
 use Rattle.dump_text.specs.Lines.{newline, refusedLine, versionText, countsText, headLine, mapLine, keyText, pairText, pairLine, pairsText, mapText, unsignedText, unsignedLine}
@@ -113,8 +115,8 @@ tx-most t B (writes x) =
     (λ h. rw (take-append-seam x (drop (length x) B)) (omega (arith, length-append (hexOrDash x) newline, hex-most x, leb-true (length x) (length B) h)))
     (λ h. omega (arith, refused-most NoRoom))
 
--- an accepted parse took no more than the room of its tables
-pub room-taken : (f P M : List ℕ) (s : Psbt) (p m : ℕ) (P′ M′ : List ℕ) → parsed f P M ≡ out (Accepted s p m) P′ M′ → (a : Accepts f P M s p m P′ M′) → Room (a .content) P M
+-- an accepted parse took no more than the room of its tables, so it reports no more maps than these have room for
+room-taken : (f P M : List ℕ) (s : Psbt) (p m : ℕ) (P′ M′ : List ℕ) → parsed f P M ≡ out (Accepted s p m) P′ M′ → (a : Accepts f P M s p m P′ M′) → Room (a .content) P M
 unfolding answer
 room-taken f P M s p m P′ M′ q a =
     let r = accepted-roomy f P M s p m P′ M′ q in
@@ -122,6 +124,11 @@ room-taken f P M s p m P′ M′ q a =
     let x : p ≡ pairs# (events f) = cc in
     let y : m ≡ begun# (events f) = cc in
     record { pairs = omega (arith, r .pairs, a .pairs); maps = omega (arith, r .maps, a .maps) }
+
+pub reports-few : (f P M : List ℕ) (s : Psbt) (p m : ℕ) (P′ M′ : List ℕ) → parsed f P M ≡ out (Accepted s p m) P′ M′ → mapsReported s * mapWords ≤ length M
+reports-few f P M s p m P′ M′ q =
+    let a = accepted-is f P M s p m P′ M′ q in
+    rw (a .reports) (omega (arith, room-taken f P M s p m P′ M′ q a .maps, one-plus-counts f (a .content) (a .reads)))
 
 -- the text of a file, in rooms of at most the program's
 content-most : (f : List ℕ) (c : Content) (B : List ℕ) → reading f ≡ accepted c → pairsIn (mapsOf c) ≤ 1024 → length (mapsOf c) ≤ 256 → length (contentText c B) ≤ 2 * length f + 2 * length B + 10111
@@ -139,7 +146,7 @@ in-most P M B f hp hm hb hf = by (parsed f P M) refl
         let r = room-taken f P M s p m P′ M′ q a in
         rw (dump-accepted f (a .content) P M B (a .reads) r) (omega (arith, content-most f (a .content) B (a .reads) (omega (arith, r .pairs)) (omega (arith, r .maps))))
 
-zeros-most : (n k : ℕ) → n ≤ k → length (zeros n) ≤ k
+pub zeros-most : (n k : ℕ) → n ≤ k → length (zeros n) ≤ k
 unfolding zeros
 zeros-most n k h = omega (arith, room n)
 
@@ -150,3 +157,13 @@ dump-fits f =
     pick-by (λ (l : List ℕ). length l ≤ 272384) (ltb 65536 (length f)) _ _
     (λ h. omega (arith, refused-most TooLong))
     (λ h. in-most _ _ _ f (zeros-most _ 4096 (omega arith)) (zeros-most _ 512 (omega arith)) (zeros-most _ 65536 (omega arith)) (ltb-false 65536 (length f) h))
+
+-- so a dump that is put at the front of that room stands there whole
+module _ (r : ℕ) (D D′ f : List ℕ) (is : spot r D′ ≡ lay (spot 0 D) (dump f)) (h : 272384 ≤ length D) where
+  pub dump-ends : r ≤ length D′
+  dump-ends = front-ends r D D′ (dump f) is (omega (arith, dump-fits f))
+
+  pub dump-whole : take r D′ ≡ dump f
+  dump-whole = front-whole r D D′ (dump f) is (omega (arith, dump-fits f))
+
+pub ruleset whole-dumps = (dump-ends, dump-whole)
