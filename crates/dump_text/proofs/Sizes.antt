@@ -5,7 +5,7 @@ use Prim.Native.Nat.{ℕ, suc, _+_, _-_, _*_, _≤_, _<_}
 use native.Mathlib.Omega.{arith}
 use borrow.Author.Tests.{leb-true, ltb-false}
 use lib.Dec.{leb, ltb}
-use lib.ListN.{length, take, drop, length-append}
+use lib.ListN.{length, drop, length-append}
 use lib.Seq.{take-append-seam}
 use Rattle.format.specs.Keys.{typeOf, dataOf}
 use Rattle.format.specs.Content.{Pair, Map, Content, mapsOf, pairBytes, pairsBytes, mapBytes, mapsBytes, bytes, psbtOf}
@@ -29,9 +29,7 @@ use Rattle.laws.specs.Rooms.{pairs#, begun#, answer}
 use Rattle.laws.proofs.Files.{reading-is, one-plus-counts}
 use Rattle.laws.proofs.Parsed.{accepted-is}
 use Rattle.laws.proofs.Rooms.{room-accepts, accepted-roomy}
-use Rattle.text.specs.Spots.{spot, lay}
 use Rattle.text.specs.Spelled.{hexByte, hexOrDash}
-use Rattle.text.proofs.Lays.{front-ends, front-whole}
 use Rattle.text.proofs.Rooms.{room}
 use Rattle.text.proofs.Sizes.{hex-most, decimal-most, decimal-few, signed-most}
 use Rattle.dump_text.specs.Lines.{newline, refusedLine, versionText, countsText, headLine, mapLine, keyText, pairText, pairLine, pairsText, mapText, unsignedText, unsignedLine}
@@ -157,13 +155,3 @@ dump-fits f =
     pick-by (λ (l : List ℕ). length l ≤ 272384) (ltb 65536 (length f)) _ _
     (λ h. omega (arith, refused-most TooLong))
     (λ h. in-most _ _ _ f (zeros-most _ 4096 (omega arith)) (zeros-most _ 512 (omega arith)) (zeros-most _ 65536 (omega arith)) (ltb-false 65536 (length f) h))
-
--- so a dump that is put at the front of that room stands there whole
-module _ (r : ℕ) (D D′ f : List ℕ) (is : spot r D′ ≡ lay (spot 0 D) (dump f)) (h : 272384 ≤ length D) where
-  pub dump-ends : r ≤ length D′
-  dump-ends = front-ends r D D′ (dump f) is (omega (arith, dump-fits f))
-
-  pub dump-whole : take r D′ ≡ dump f
-  dump-whole = front-whole r D D′ (dump f) is (omega (arith, dump-fits f))
-
-pub ruleset whole-dumps = (dump-ends, dump-whole)

@@ -273,7 +273,7 @@ pub fn file_room() -> [u8; 65537]
     [0; 65537]
 }
 
-// Room for every dump: no dump is longer.
+// Room for every dump: none is longer (`dump-fits`).
 fn text_room() -> [u8; 272384]
     ensures { λ r. ⌜ 272384 ≡ length r ⌝ }
 {

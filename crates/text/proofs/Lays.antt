@@ -43,14 +43,14 @@ lay-whole at D (b ∷ S) h =
     let e : at + 1 + length S ≡ at + suc (length S) = omega arith in
     rw (lt-ltb at (length D) q) (lay-whole (at + 1) (set D at b) S l ∙ ap₂ (λ (n m : ℕ). spot n (wrote (set D at b) m S)) e (add-one at))
 
--- so at the front of a buffer with room for it, which then begins with it
-module _ (r : ℕ) (D D′ S : List ℕ) (is : spot r D′ ≡ lay (spot 0 D) S) (h : length S ≤ length D) where
+-- so at the front of a buffer of n bytes or more, which then begins with a text of at most n
+module _ (n r : ℕ) (D D′ S : List ℕ) (is : spot r D′ ≡ lay (spot 0 D) S) (fits : length S ≤ n) (h : n ≤ length D) where
   front-is : (r ≡ length S) × (D′ ≡ S ++ drop (0 + length S) D)
   unfolding wrote
   front-is =
       let k : 0 + length S ≤ length D = omega arith in
       let e : spot r D′ ≡ spot (0 + length S) (wrote D 0 S) = is ∙ lay-whole 0 D S k in
-      let n : r ≡ 0 + length S = cc in
+      let m : r ≡ 0 + length S = cc in
       let d : D′ ≡ wrote D 0 S = cc in
       (omega arith, d ∙ sets-eq S D 0 k)
 
@@ -59,6 +59,8 @@ module _ (r : ℕ) (D D′ S : List ℕ) (is : spot r D′ ≡ lay (spot 0 D) S)
 
   pub front-whole : take r D′ ≡ S
   front-whole = rw (front-is .0, front-is .1) (take-append-seam S (drop (0 + length S) D))
+
+pub ruleset fronts = (front-ends, front-whole)
 
 -- both ways of `put_byte`
 module _ (at : ℕ) (D : List ℕ) (b : ℕ) where

@@ -4,7 +4,7 @@ use mathlib.Core.List.{List, []}
 use Prim.Native.Nat.{ℕ, zero, suc, _+_, _*_, _≤_, _<_}
 use native.Mathlib.Omega.{arith}
 use lib.Dec.{ltb}
-use lib.ListN.{length, take, length-append}
+use lib.ListN.{length, length-append}
 use Rattle.format.specs.Tables.{mapsReported, view}
 use Rattle.format.specs.Parse.{ParseOut, out, parsed}
 use Rattle.format.specs.Transaction.{unsignedTx, lockDecided}
@@ -13,8 +13,6 @@ use Rattle.format.specs.declared.Psbt.{Psbt}
 use Rattle.format.specs.declared.Numbered.{Numbered}
 use Rattle.format.specs.declared.Parsed.the-variants.{Accepted, Refused}
 use Rattle.format.proofs.Tests.{pick-by}
-use Rattle.text.specs.Spots.{spot, lay}
-use Rattle.text.proofs.Lays.{front-ends, front-whole}
 use Rattle.dump_text.specs.Dump.{fresh}
 use Rattle.dump_text.proofs.Sizes.{reports-few, zeros-most}
 use Rattle.reasons.proofs.Sizes.{refused-most}
@@ -51,13 +49,3 @@ why-fits f =
     pick-by (λ (l : List ℕ). length l ≤ 30720) (ltb 65536 (length f)) _ _
     (λ h. omega (arith, refused-most TooLong))
     (λ h. in-most _ _ _ f (zeros-most _ 512 (omega arith)))
-
--- so a text that is put at the front of that room stands there whole
-module _ (r : ℕ) (D D′ f : List ℕ) (is : spot r D′ ≡ lay (spot 0 D) (why f)) (h : 30720 ≤ length D) where
-  pub why-ends : r ≤ length D′
-  why-ends = front-ends r D D′ (why f) is (omega (arith, why-fits f))
-
-  pub why-whole : take r D′ ≡ why f
-  why-whole = front-whole r D D′ (why f) is (omega (arith, why-fits f))
-
-pub ruleset whole-texts = (why-ends, why-whole)

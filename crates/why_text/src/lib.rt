@@ -106,7 +106,7 @@ pub fn put_why(out: &mut [u8], at: usize, file: &[u8]) -> usize
     put_parsed(out, at, file, &mut pairs, &mut maps, &mut tx)
 }
 
-// Room for every text: no text is longer.
+// Room for every text: none is longer (`why-fits`).
 fn text_room() -> [u8; 30720]
     ensures { λ r. ⌜ 30720 ≡ length r ⌝ }
 {
