@@ -1,16 +1,16 @@
 -- Every dump fits the room that the program has for it.
 use mathlib.Core.Path.{_≡_, refl, sym, _∙_, ap}
 use mathlib.Core.List.{List, [], _∷_, _++_, append-nil}
-use Prim.Native.Nat.{ℕ, suc, _+_, _-_, _*_, _≤_, _<_}
+use Prim.Native.Nat.{ℕ, suc, _+_, _*_, _≤_, _<_}
 use native.Mathlib.Omega.{arith}
 use borrow.Author.Tests.{leb-true, ltb-false}
 use lib.Dec.{leb, ltb}
 use lib.ListN.{length, drop, length-append}
 use lib.Seq.{take-append-seam}
-use Rattle.format.specs.Keys.{typeOf, dataOf}
+use Rattle.format.specs.Keys.{dataOf}
 use Rattle.format.specs.Content.{Pair, Map, Content, mapsOf, pairBytes, pairsBytes, mapBytes, mapsBytes, bytes, psbtOf}
 use Rattle.format.specs.Reading.{FieldRule, two, accepted, reading, events}
-use Rattle.format.specs.Entries.{pairWords, mapWords}
+use Rattle.format.specs.Entries.{mapWords}
 use Rattle.format.specs.Tables.{mapsReported}
 use Rattle.format.specs.Parse.{ParseOut, out, parsed}
 use Rattle.format.specs.Transaction.{Tx, refuses, writes, TxOut, written, txReported, unsignedTx}
