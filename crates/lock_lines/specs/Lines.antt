@@ -14,13 +14,14 @@ use Rattle.format.specs.declared.Lock.{Lock}
 use Rattle.format.specs.declared.Lock.the-variants as L
 use Rattle.format.specs.declared.UnsignedTx.{UnsignedTx}
 use Rattle.format.specs.declared.UnsignedTx.the-variants as X
+use Rattle.text.specs.Say.{say}
 use Rattle.text.specs.Spelled.{decimal}
 use Rattle.utc.specs.Dates.{dateText}
 use Rattle.reasons.specs.Reasons.{newline, sayThat, meaning, refusedLine}
 
 -- `height `
 abbrev pub sayHeight : List ℕ
-sayHeight = 104 ∷ 101 ∷ 105 ∷ 103 ∷ 104 ∷ 116 ∷ 32 ∷ []
+sayHeight = say "height "
 
 -- `height N`
 unfoldable pub heightNumber : ℕ → List ℕ
@@ -28,15 +29,15 @@ heightNumber n = sayHeight ++ decimal n
 
 -- `time `
 abbrev pub sayTime : List ℕ
-sayTime = 116 ∷ 105 ∷ 109 ∷ 101 ∷ 32 ∷ []
+sayTime = say "time "
 
 -- ` (`
 abbrev pub sayOpen : List ℕ
-sayOpen = 32 ∷ 40 ∷ []
+sayOpen = say " ("
 
 -- `)`
 abbrev pub sayClose : List ℕ
-sayClose = 41 ∷ []
+sayClose = say ")"
 
 -- `time N (DATE)`
 unfoldable pub timeNumber : ℕ → List ℕ
@@ -44,7 +45,7 @@ timeNumber n = sayTime ++ (decimal n ++ (sayOpen ++ (dateText n ++ sayClose)))
 
 -- `time 0: none`
 abbrev pub sayNone : List ℕ
-sayNone = 116 ∷ 105 ∷ 109 ∷ 101 ∷ 32 ∷ 48 ∷ 58 ∷ 32 ∷ 110 ∷ 111 ∷ 110 ∷ 101 ∷ []
+sayNone = say "time 0: none"
 
 -- a lock number as the network reads it: none, a height or a time
 unfoldable pub lockText : ℕ → List ℕ
@@ -52,7 +53,7 @@ lockText n = pick (eqb n 0) sayNone (pick (ltb n threshold) (heightNumber n) (ti
 
 -- `none`
 abbrev pub sayNoFallback : List ℕ
-sayNoFallback = 110 ∷ 111 ∷ 110 ∷ 101 ∷ []
+sayNoFallback = say "none"
 
 -- the fallback
 unfoldable pub fallbackText : Maybe → List ℕ
@@ -61,11 +62,11 @@ fallbackText (Present n) = lockText n
 
 -- `inputs `
 abbrev pub sayInputs : List ℕ
-sayInputs = 105 ∷ 110 ∷ 112 ∷ 117 ∷ 116 ∷ 115 ∷ 32 ∷ []
+sayInputs = say "inputs "
 
 -- `, fallback `
 abbrev pub sayFallback : List ℕ
-sayFallback = 44 ∷ 32 ∷ 102 ∷ 97 ∷ 108 ∷ 108 ∷ 98 ∷ 97 ∷ 99 ∷ 107 ∷ 32 ∷ []
+sayFallback = say ", fallback "
 
 -- `inputs N, fallback ..`
 unfoldable pub headLine : ℕ → Maybe → List ℕ
@@ -73,11 +74,11 @@ headLine n m = sayInputs ++ (decimal n ++ (sayFallback ++ (fallbackText m ++ new
 
 -- `an unreadable height`
 abbrev pub sayBadHeight : List ℕ
-sayBadHeight = 97 ∷ 110 ∷ 32 ∷ 117 ∷ 110 ∷ 114 ∷ 101 ∷ 97 ∷ 100 ∷ 97 ∷ 98 ∷ 108 ∷ 101 ∷ 32 ∷ 104 ∷ 101 ∷ 105 ∷ 103 ∷ 104 ∷ 116 ∷ []
+sayBadHeight = say "an unreadable height"
 
 -- `no height`
 abbrev pub sayNoHeight : List ℕ
-sayNoHeight = 110 ∷ 111 ∷ 32 ∷ 104 ∷ 101 ∷ 105 ∷ 103 ∷ 104 ∷ 116 ∷ []
+sayNoHeight = say "no height"
 
 -- the height that an input asks for
 unfoldable pub heightText : Numbered → List ℕ
@@ -87,11 +88,11 @@ heightText (N.Is n) = heightNumber n
 
 -- `an unreadable time`
 abbrev pub sayBadTime : List ℕ
-sayBadTime = 97 ∷ 110 ∷ 32 ∷ 117 ∷ 110 ∷ 114 ∷ 101 ∷ 97 ∷ 100 ∷ 97 ∷ 98 ∷ 108 ∷ 101 ∷ 32 ∷ 116 ∷ 105 ∷ 109 ∷ 101 ∷ []
+sayBadTime = say "an unreadable time"
 
 -- `no time`
 abbrev pub sayNoTime : List ℕ
-sayNoTime = 110 ∷ 111 ∷ 32 ∷ 116 ∷ 105 ∷ 109 ∷ 101 ∷ []
+sayNoTime = say "no time"
 
 -- the time that an input asks for
 unfoldable pub timeText : Numbered → List ℕ
@@ -101,15 +102,15 @@ timeText (N.Is n) = timeNumber n
 
 -- `input `
 abbrev pub sayInput : List ℕ
-sayInput = 105 ∷ 110 ∷ 112 ∷ 117 ∷ 116 ∷ 32 ∷ []
+sayInput = say "input "
 
 -- ` asks `
 abbrev pub sayAsks : List ℕ
-sayAsks = 32 ∷ 97 ∷ 115 ∷ 107 ∷ 115 ∷ 32 ∷ []
+sayAsks = say " asks "
 
 -- ` and `
 abbrev pub sayAnd : List ℕ
-sayAnd = 32 ∷ 97 ∷ 110 ∷ 100 ∷ 32 ∷ []
+sayAnd = say " and "
 
 -- what input number i asks for
 unfoldable pub inputLine : ℕ → Numbered → Numbered → List ℕ
@@ -117,7 +118,7 @@ inputLine i h t = sayInput ++ (decimal i ++ (sayAsks ++ (heightText h ++ (sayAnd
 
 -- `an input has no txid or no index, or an output no amount`
 abbrev pub sayLack : List ℕ
-sayLack = 97 ∷ 110 ∷ 32 ∷ 105 ∷ 110 ∷ 112 ∷ 117 ∷ 116 ∷ 32 ∷ 104 ∷ 97 ∷ 115 ∷ 32 ∷ 110 ∷ 111 ∷ 32 ∷ 116 ∷ 120 ∷ 105 ∷ 100 ∷ 32 ∷ 111 ∷ 114 ∷ 32 ∷ 110 ∷ 111 ∷ 32 ∷ 105 ∷ 110 ∷ 100 ∷ 101 ∷ 120 ∷ 44 ∷ 32 ∷ 111 ∷ 114 ∷ 32 ∷ 97 ∷ 110 ∷ 32 ∷ 111 ∷ 117 ∷ 116 ∷ 112 ∷ 117 ∷ 116 ∷ 32 ∷ 110 ∷ 111 ∷ 32 ∷ 97 ∷ 109 ∷ 111 ∷ 117 ∷ 110 ∷ 116 ∷ []
+sayLack = say "an input has no txid or no index, or an output no amount"
 
 -- what keeps a transaction from being given once the lock is decided: 7 is a missing field then
 unfoldable pub lackText : PsbtError → List ℕ
@@ -125,15 +126,15 @@ lackText e = pick (eqb (numberOf e) 7) sayLack (meaning e)
 
 -- `no transaction, refused `
 abbrev pub sayNoTx : List ℕ
-sayNoTx = 110 ∷ 111 ∷ 32 ∷ 116 ∷ 114 ∷ 97 ∷ 110 ∷ 115 ∷ 97 ∷ 99 ∷ 116 ∷ 105 ∷ 111 ∷ 110 ∷ 44 ∷ 32 ∷ 114 ∷ 101 ∷ 102 ∷ 117 ∷ 115 ∷ 101 ∷ 100 ∷ 32 ∷ []
+sayNoTx = say "no transaction, refused "
 
 -- `transaction of `
 abbrev pub sayTx : List ℕ
-sayTx = 116 ∷ 114 ∷ 97 ∷ 110 ∷ 115 ∷ 97 ∷ 99 ∷ 116 ∷ 105 ∷ 111 ∷ 110 ∷ 32 ∷ 111 ∷ 102 ∷ 32 ∷ []
+sayTx = say "transaction of "
 
 -- ` bytes`, and the end of the line
 abbrev pub sayBytes : List ℕ
-sayBytes = 32 ∷ 98 ∷ 121 ∷ 116 ∷ 101 ∷ 115 ∷ 10 ∷ []
+sayBytes = say " bytes\n"
 
 -- whether a transaction is given
 unfoldable pub txLine : UnsignedTx → List ℕ
@@ -142,7 +143,7 @@ txLine (X.Written n t) = sayTx ++ (decimal n ++ sayBytes)
 
 -- `lock `
 abbrev pub sayLock : List ℕ
-sayLock = 108 ∷ 111 ∷ 99 ∷ 107 ∷ 32 ∷ []
+sayLock = say "lock "
 
 -- the lock time that was decided, and whether a transaction is given
 unfoldable pub outcome : ℕ → UnsignedTx → List ℕ
@@ -150,7 +151,7 @@ outcome n x = sayLock ++ (lockText n ++ (newline ++ txLine x))
 
 -- `no input asks for a lock: the fallback decides`, and the end of the line
 abbrev pub sayByFallback : List ℕ
-sayByFallback = 110 ∷ 111 ∷ 32 ∷ 105 ∷ 110 ∷ 112 ∷ 117 ∷ 116 ∷ 32 ∷ 97 ∷ 115 ∷ 107 ∷ 115 ∷ 32 ∷ 102 ∷ 111 ∷ 114 ∷ 32 ∷ 97 ∷ 32 ∷ 108 ∷ 111 ∷ 99 ∷ 107 ∷ 58 ∷ 32 ∷ 116 ∷ 104 ∷ 101 ∷ 32 ∷ 102 ∷ 97 ∷ 108 ∷ 108 ∷ 98 ∷ 97 ∷ 99 ∷ 107 ∷ 32 ∷ 100 ∷ 101 ∷ 99 ∷ 105 ∷ 100 ∷ 101 ∷ 115 ∷ 10 ∷ []
+sayByFallback = say "no input asks for a lock: the fallback decides\n"
 
 -- nothing was asked for
 unfoldable pub fallbackDecided : ℕ → UnsignedTx → List ℕ
@@ -158,7 +159,7 @@ fallbackDecided n x = sayByFallback ++ outcome n x
 
 -- `the greatest height asked decides: input `
 abbrev pub sayByHeight : List ℕ
-sayByHeight = 116 ∷ 104 ∷ 101 ∷ 32 ∷ 103 ∷ 114 ∷ 101 ∷ 97 ∷ 116 ∷ 101 ∷ 115 ∷ 116 ∷ 32 ∷ 104 ∷ 101 ∷ 105 ∷ 103 ∷ 104 ∷ 116 ∷ 32 ∷ 97 ∷ 115 ∷ 107 ∷ 101 ∷ 100 ∷ 32 ∷ 100 ∷ 101 ∷ 99 ∷ 105 ∷ 100 ∷ 101 ∷ 115 ∷ 58 ∷ 32 ∷ 105 ∷ 110 ∷ 112 ∷ 117 ∷ 116 ∷ 32 ∷ []
+sayByHeight = say "the greatest height asked decides: input "
 
 -- heights were asked for, the greatest by input i
 unfoldable pub heightDecided : ℕ → ℕ → UnsignedTx → List ℕ
@@ -166,7 +167,7 @@ heightDecided n i x = sayByHeight ++ (decimal i ++ (newline ++ outcome n x))
 
 -- `the greatest time asked decides: input `
 abbrev pub sayByTime : List ℕ
-sayByTime = 116 ∷ 104 ∷ 101 ∷ 32 ∷ 103 ∷ 114 ∷ 101 ∷ 97 ∷ 116 ∷ 101 ∷ 115 ∷ 116 ∷ 32 ∷ 116 ∷ 105 ∷ 109 ∷ 101 ∷ 32 ∷ 97 ∷ 115 ∷ 107 ∷ 101 ∷ 100 ∷ 32 ∷ 100 ∷ 101 ∷ 99 ∷ 105 ∷ 100 ∷ 101 ∷ 115 ∷ 58 ∷ 32 ∷ 105 ∷ 110 ∷ 112 ∷ 117 ∷ 116 ∷ 32 ∷ []
+sayByTime = say "the greatest time asked decides: input "
 
 -- times were asked for, the greatest by input i
 unfoldable pub timeDecided : ℕ → ℕ → UnsignedTx → List ℕ
@@ -174,11 +175,11 @@ timeDecided n i x = sayByTime ++ (decimal i ++ (newline ++ outcome n x))
 
 -- ` asks a height and input `
 abbrev pub sayAsksHeight : List ℕ
-sayAsksHeight = 32 ∷ 97 ∷ 115 ∷ 107 ∷ 115 ∷ 32 ∷ 97 ∷ 32 ∷ 104 ∷ 101 ∷ 105 ∷ 103 ∷ 104 ∷ 116 ∷ 32 ∷ 97 ∷ 110 ∷ 100 ∷ 32 ∷ 105 ∷ 110 ∷ 112 ∷ 117 ∷ 116 ∷ 32 ∷ []
+sayAsksHeight = say " asks a height and input "
 
 -- ` asks a time: refused 7`, and the end of the line
 abbrev pub sayAsksTime : List ℕ
-sayAsksTime = 32 ∷ 97 ∷ 115 ∷ 107 ∷ 115 ∷ 32 ∷ 97 ∷ 32 ∷ 116 ∷ 105 ∷ 109 ∷ 101 ∷ 58 ∷ 32 ∷ 114 ∷ 101 ∷ 102 ∷ 117 ∷ 115 ∷ 101 ∷ 100 ∷ 32 ∷ 55 ∷ 10 ∷ []
+sayAsksTime = say " asks a time: refused 7\n"
 
 -- both kinds were asked for
 unfoldable pub bothLine : ℕ → ℕ → List ℕ
@@ -186,11 +187,11 @@ bothLine h t = sayInput ++ (decimal h ++ (sayAsksHeight ++ (decimal t ++ sayAsks
 
 -- ` asks height `
 abbrev pub sayAsksThisHeight : List ℕ
-sayAsksThisHeight = 32 ∷ 97 ∷ 115 ∷ 107 ∷ 115 ∷ 32 ∷ 104 ∷ 101 ∷ 105 ∷ 103 ∷ 104 ∷ 116 ∷ 32 ∷ []
+sayAsksThisHeight = say " asks height "
 
 -- `, which is not below 500000000 and would be read as a time: refused 7`, and the end of the line
 abbrev pub sayTooGreat : List ℕ
-sayTooGreat = 44 ∷ 32 ∷ 119 ∷ 104 ∷ 105 ∷ 99 ∷ 104 ∷ 32 ∷ 105 ∷ 115 ∷ 32 ∷ 110 ∷ 111 ∷ 116 ∷ 32 ∷ 98 ∷ 101 ∷ 108 ∷ 111 ∷ 119 ∷ 32 ∷ 53 ∷ 48 ∷ 48 ∷ 48 ∷ 48 ∷ 48 ∷ 48 ∷ 48 ∷ 48 ∷ 32 ∷ 97 ∷ 110 ∷ 100 ∷ 32 ∷ 119 ∷ 111 ∷ 117 ∷ 108 ∷ 100 ∷ 32 ∷ 98 ∷ 101 ∷ 32 ∷ 114 ∷ 101 ∷ 97 ∷ 100 ∷ 32 ∷ 97 ∷ 115 ∷ 32 ∷ 97 ∷ 32 ∷ 116 ∷ 105 ∷ 109 ∷ 101 ∷ 58 ∷ 32 ∷ 114 ∷ 101 ∷ 102 ∷ 117 ∷ 115 ∷ 101 ∷ 100 ∷ 32 ∷ 55 ∷ 10 ∷ []
+sayTooGreat = say ", which is not below 500000000 and would be read as a time: refused 7\n"
 
 -- the greatest height is no height
 unfoldable pub tooGreatLine : ℕ → ℕ → List ℕ
@@ -198,11 +199,11 @@ tooGreatLine n i = sayInput ++ (decimal i ++ (sayAsksThisHeight ++ (decimal n ++
 
 -- ` asks time `
 abbrev pub sayAsksThisTime : List ℕ
-sayAsksThisTime = 32 ∷ 97 ∷ 115 ∷ 107 ∷ 115 ∷ 32 ∷ 116 ∷ 105 ∷ 109 ∷ 101 ∷ 32 ∷ []
+sayAsksThisTime = say " asks time "
 
 -- `, which is below 500000000 and would be read as a block height: refused 7`, and the end of the line
 abbrev pub sayTooSmall : List ℕ
-sayTooSmall = 44 ∷ 32 ∷ 119 ∷ 104 ∷ 105 ∷ 99 ∷ 104 ∷ 32 ∷ 105 ∷ 115 ∷ 32 ∷ 98 ∷ 101 ∷ 108 ∷ 111 ∷ 119 ∷ 32 ∷ 53 ∷ 48 ∷ 48 ∷ 48 ∷ 48 ∷ 48 ∷ 48 ∷ 48 ∷ 48 ∷ 32 ∷ 97 ∷ 110 ∷ 100 ∷ 32 ∷ 119 ∷ 111 ∷ 117 ∷ 108 ∷ 100 ∷ 32 ∷ 98 ∷ 101 ∷ 32 ∷ 114 ∷ 101 ∷ 97 ∷ 100 ∷ 32 ∷ 97 ∷ 115 ∷ 32 ∷ 97 ∷ 32 ∷ 98 ∷ 108 ∷ 111 ∷ 99 ∷ 107 ∷ 32 ∷ 104 ∷ 101 ∷ 105 ∷ 103 ∷ 104 ∷ 116 ∷ 58 ∷ 32 ∷ 114 ∷ 101 ∷ 102 ∷ 117 ∷ 115 ∷ 101 ∷ 100 ∷ 32 ∷ 55 ∷ 10 ∷ []
+sayTooSmall = say ", which is below 500000000 and would be read as a block height: refused 7\n"
 
 -- the greatest time is no time: a fallen clock
 unfoldable pub tooSmallLine : ℕ → ℕ → List ℕ
@@ -210,7 +211,7 @@ tooSmallLine n i = sayInput ++ (decimal i ++ (sayAsksThisTime ++ (decimal n ++ s
 
 -- ` asks a height or a time of a wrong length: refused 7`, and the end of the line
 abbrev pub sayMalformed : List ℕ
-sayMalformed = 32 ∷ 97 ∷ 115 ∷ 107 ∷ 115 ∷ 32 ∷ 97 ∷ 32 ∷ 104 ∷ 101 ∷ 105 ∷ 103 ∷ 104 ∷ 116 ∷ 32 ∷ 111 ∷ 114 ∷ 32 ∷ 97 ∷ 32 ∷ 116 ∷ 105 ∷ 109 ∷ 101 ∷ 32 ∷ 111 ∷ 102 ∷ 32 ∷ 97 ∷ 32 ∷ 119 ∷ 114 ∷ 111 ∷ 110 ∷ 103 ∷ 32 ∷ 108 ∷ 101 ∷ 110 ∷ 103 ∷ 116 ∷ 104 ∷ 58 ∷ 32 ∷ 114 ∷ 101 ∷ 102 ∷ 117 ∷ 115 ∷ 101 ∷ 100 ∷ 32 ∷ 55 ∷ 10 ∷ []
+sayMalformed = say " asks a height or a time of a wrong length: refused 7\n"
 
 -- a lock field of a wrong length
 unfoldable pub malformedLine : ℕ → List ℕ
