@@ -13,9 +13,10 @@ use Rattle.format.specs.declared.Lock.{Lock}
 use Rattle.format.specs.declared.UnsignedTx.{UnsignedTx}
 use Rattle.format.specs.declared.UnsignedTx.the-variants as X
 use Rattle.text.specs.Spots.{Spot, lay}
+use Rattle.text.specs.Say.{newline}
 use Rattle.text.specs.Spelled.{decimal}
 use Rattle.text.proofs.Chains.{chain3, chain5}
-use Rattle.reasons.specs.Reasons.{newline, sayThat, meaning}
+use Rattle.reasons.specs.Reasons.{sayThat, meaning}
 use Rattle.reasons.proofs.Meanings.{by-case}
 use Rattle.lock_lines.specs.Lines.{heightNumber, timeNumber, sayNone, lockText, fallbackText, heightText, timeText, sayLack, lackText, sayNoTx, sayTx, sayBytes, txLine, verdict}
 

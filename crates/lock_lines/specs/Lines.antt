@@ -15,10 +15,10 @@ use Rattle.format.specs.declared.Lock.{Lock}
 use Rattle.format.specs.declared.Lock.the-variants as L
 use Rattle.format.specs.declared.UnsignedTx.{UnsignedTx}
 use Rattle.format.specs.declared.UnsignedTx.the-variants as X
-use Rattle.text.specs.Say.{say}
+use Rattle.text.specs.Say.{say, newline}
 use Rattle.text.specs.Spelled.{decimal}
 use Rattle.utc.specs.Dates.{dateText}
-use Rattle.reasons.specs.Reasons.{newline, sayRefused, sayThat, meaning, refusedLine}
+use Rattle.reasons.specs.Reasons.{sayRefused, sayThat, meaning, refusedLine}
 
 -- a height
 unfoldable pub heightNumber : ℕ → List ℕ
