@@ -30,7 +30,7 @@ ghost use Rattle.entries.specs.Words.{pairCount};
 ghost use Rattle.fitness.specs.Fits.{entriesOf};
 ghost use Rattle.text.specs.Spots.{spot, lay};
 ghost use Rattle.dump_text.specs.Lines.{refusedLine, versionText, countsText, headLine, mapLine, keyText, pairText, pairLine, pairsText, mapText, mapsText, unsignedLine};
-ghost use Rattle.dump_text.specs.Dump.{zeros, acceptedText, dumpIn, dump};
+ghost use Rattle.dump_text.specs.Dump.{pairRoom, mapRoom, txRoom, acceptedText, dumpIn, dump};
 
 // The longest file that is dumped, in bytes.
 const MOST: usize = 65536;
@@ -231,7 +231,7 @@ fn put_parsed(
 
 // Room for 1,024 pairs.
 pub fn pair_room() -> [u32; 4096]
-    ensures { λ r. ⌜ r ≡ zeros 4096 ⌝ }
+    ensures { λ r. ⌜ r ≡ pairRoom ⌝ }
     ensures { λ r. ⌜ 4096 ≡ length r ⌝ }
 {
     [0; 4096]
@@ -239,7 +239,7 @@ pub fn pair_room() -> [u32; 4096]
 
 // Room for 256 maps.
 pub fn map_room() -> [u32; 512]
-    ensures { λ r. ⌜ r ≡ zeros 512 ⌝ }
+    ensures { λ r. ⌜ r ≡ mapRoom ⌝ }
     ensures { λ r. ⌜ 512 ≡ length r ⌝ }
 {
     [0; 512]
@@ -247,7 +247,7 @@ pub fn map_room() -> [u32; 512]
 
 // Room for the transaction.
 pub fn tx_room() -> [u8; 65536]
-    ensures { λ r. ⌜ r ≡ zeros 65536 ⌝ }
+    ensures { λ r. ⌜ r ≡ txRoom ⌝ }
     ensures { λ r. ⌜ 65536 ≡ length r ⌝ }
 {
     [0; 65536]
