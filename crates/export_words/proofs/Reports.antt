@@ -5,7 +5,7 @@ use mathlib.Core.Bool.{Bool, true, false}
 use mathlib.Core.List.{List, [], _∷_, _++_}
 use native.Mathlib.Omega.{arith}
 use borrow.Author.Tests.{ne-eqb, le-leb, eqb-true}
-use lib.Dec.{eqb}
+use lib.Dec.{leb, eqb}
 use lib.IntN.{ℤ}
 use lib.ListN.{length, drop}
 use mir.Syntax.{w32}
@@ -17,7 +17,8 @@ use Rattle.format.specs.Keys.{keyOf, typeOf, dataOf, same}
 use Rattle.format.specs.Rules.{GLOBAL, bareRule, sizes, sizesIn, isRow, rowRule, valueFits, sizedTypes, andThen, rule}
 use Rattle.format.specs.Content.{Pair, Map, Content, magic, pairBytes, pairsBytes, mapBytes, mapsBytes, bytes, Found, absent, found, find, field, number, maybe, psbtOf}
 use Rattle.format.specs.Parse.{parsed, out}
-use Rattle.format.specs.Told.{Told, told, maybeValue, toldWith, toldParsed, toldParse}
+use Rattle.format.specs.Told.{Told, told, maybeValue, toldWith, ToldOut, toldLeft, toldParsed, toldParse}
+use Rattle.format.specs.Refusals.{numberOf}
 use Rattle.format.specs.declared.PsbtError.{PsbtError}
 use Rattle.format.specs.declared.PsbtError.the-variants.{BadValue}
 use Rattle.format.specs.declared.Ruled.{Ruled}
@@ -25,10 +26,11 @@ use Rattle.format.specs.declared.Ruled.the-variants as R
 use Rattle.format.specs.declared.Maybe.{Maybe}
 use Rattle.format.specs.declared.Maybe.the-variants.{Absent, Present}
 use Rattle.format.specs.declared.Psbt.{Psbt}
+use Rattle.format.specs.declared.State.{State}
 use Rattle.format.specs.declared.Parsed.{Parsed}
 use Rattle.format.specs.declared.Parsed.the-variants.{Accepted, Refused}
 use Rattle.format.proofs.Numbers.{All, Byte, le-below}
-use Rattle.format.proofs.Tests.{pick-by}
+use Rattle.format.proofs.Tests.{pick-no, pick-by}
 use Rattle.format.proofs.Keys.{same-is}
 use Rattle.laws.specs.Fine.{Keeps}
 use Rattle.laws.specs.Shown.{Accepts}
@@ -36,7 +38,7 @@ use Rattle.laws.proofs.Files.{reading-is}
 use Rattle.laws.proofs.Parsed.{accepted-is}
 use Rattle.honours.proofs.Decisions.{all-split}
 use Rattle.export_words.specs.Fitting.{Narrow, Fitting}
-use Rattle.export_words.specs.Words.{word, wordsOf, wordsTold, answerWords, noValue, maybeOf, psbtIn, isReport, exported, leavesBoth, answeredWith, answered, parseLeft, parseExport}
+use Rattle.export_words.specs.Words.{word, wordsOf, wordsTold, answerWords, noValue, maybeOf, psbtIn, isReport, noReport, stateOf, Export, exported, ExportWith, leaves, leavesBoth, answeredWith, answered, asked, askedIn, parseLeft, parseExport, outLeft, outExport}
 
 -- each value that is reported, back from its word
 number-back : (n : ℕ) → n < 2 ^ 32 → maybeOf n ≡ Present n
@@ -171,3 +173,24 @@ module _ (f P M A : List ℕ) (n : ℕ) (A′ Q N : List ℕ) (long : answerWord
   -- of a refused one: no report
   pub parse-leaves-none : (x : PsbtError) (p m : ℕ) (P′ M′ : List ℕ) → parsed f P M ≡ out (Refused x p m) P′ M′ → isReport A′ ≡ false
   parse-leaves-none x p m P′ M′ q = rw (leaves-words (Refused x p m) P′ M′ q) (refused-report (drop answerWords A) p m x)
+
+-- with words that are no report every call tells 24 and leaves its buffer, whatever else it is lent
+pub no-report-is : noReport ≡ told 24 []
+unfolding noReport numberOf
+no-report-is = refl
+
+module _ (R A : List ℕ) (none : isReport R ≡ false) where
+  pub none-asked : (k : Psbt → Told) → asked R A k ≡ answered A noReport
+  unfolding asked
+  none-asked k = rw none
+
+  pub none-asked-in : (a b : ℕ) (k : State → Psbt → Told) → askedIn a b R A k ≡ answered A noReport
+  unfolding askedIn
+  none-asked-in a b k = none-asked (k (stateOf a b))
+
+  pub none-out : (a b : ℕ) (B : List ℕ) (k : State → Psbt → ToldOut) → outExport a b R A B k ≡ leaves (answered A noReport) B
+  unfolding outExport outLeft noReport answered answeredWith
+  none-out a b B k =
+      rw none
+      (pick-by (λ (x : ExportWith). x ≡ leaves (answered A noReport) B) (leb answerWords (length A)) _ _ (λ q. refl)
+      (λ q. ap (λ (x : Export). leaves x B) (sym (pick-no (leb answerWords (length A)) _ _ q))))

@@ -10,6 +10,7 @@ use Rattle.format.specs.Told.{Told, ToldParse, toldWith, ToldOut, toldLeft}
 use Rattle.format.specs.declared.Psbt.{Psbt}
 use Rattle.format.specs.declared.State.{State}
 use Rattle.format.proofs.Tests.{never-true}
+use Rattle.export_words.proofs.Reports.{none-asked, none-asked-in, none-out}
 use Rattle.export_words.specs.Words.{Export, exported, answered, psbtIn, isReport, noReport, stateOf, asked, askedIn, ExportWith, leaves, ExportWithBoth, leavesBoth, parseLeft, parseExport, outLeft, outExport}
 
 -- the words are no report, or are one
@@ -24,8 +25,7 @@ a-report false b h y = never-true (sym y)
 -- a call that changes no lent memory but the slice
 module _ (R A : List ℕ) (q : Bool) (h : q ≡ isReport R) (x : Export) where
   pub asked-none : (k : Psbt → Told) → not q ≡ true → x ≡ answered A noReport → x ≡ asked R A k
-  unfolding asked
-  asked-none k n e = e ∙ sym (rw (no-report q (isReport R) h n))
+  asked-none k n e = e ∙ sym (none-asked R A (no-report q (isReport R) h n) k)
 
   pub asked-by : (k : Psbt → Told) → not q ≡ false → (s : Psbt) (t : Told) → s ≡ psbtIn R → t ≡ k s → x ≡ answered A t → x ≡ asked R A k
   unfolding asked
@@ -34,8 +34,7 @@ module _ (R A : List ℕ) (q : Bool) (h : q ≡ isReport R) (x : Export) where
   -- with the state
   module _ (a b : ℕ) (k : State → Psbt → Told) where
     pub in-none : not q ≡ true → x ≡ answered A noReport → x ≡ askedIn a b R A k
-    unfolding askedIn
-    in-none n e = asked-none (k (stateOf a b)) n e
+    in-none n e = e ∙ sym (none-asked-in R A (no-report q (isReport R) h n) a b k)
 
     pub asked-in : not q ≡ false → (z : State) (s : Psbt) (t : Told) → z ≡ stateOf a b → s ≡ psbtIn R → t ≡ k z s → x ≡ answered A t → x ≡ askedIn a b R A k
     unfolding askedIn
@@ -51,15 +50,14 @@ module _ (a b : ℕ) (R A B : List ℕ) (k : State → Psbt → ToldOut) where
   unfolding outExport numberOf
   out-short h = rw (lt-leb 8 (length A) h)
 
-  module _ (l : 8 ≤ length A) (q : Bool) (h : q ≡ isReport R) (x : Export) where
+  module _ (q : Bool) (h : q ≡ isReport R) (x : Export) where
     pub out-none : not q ≡ true → x ≡ answered A noReport → leaves x B ≡ outExport a b R A B k
-    unfolding outExport outLeft
-    out-none n e = rw (le-leb 8 (length A) l, no-report q (isReport R) h n) (ap (λ (y : Export). leaves y B) e)
+    out-none n e = ap (λ (y : Export). leaves y B) e ∙ sym (none-out R A (no-report q (isReport R) h n) a b B k)
 
-    pub out-by : not q ≡ false → (z : State) (s : Psbt) (t : Told) (C : List ℕ) → z ≡ stateOf a b → s ≡ psbtIn R → toldLeft t C ≡ k z s → x ≡ answered A t
+    pub out-by : 8 ≤ length A → not q ≡ false → (z : State) (s : Psbt) (t : Told) (C : List ℕ) → z ≡ stateOf a b → s ≡ psbtIn R → toldLeft t C ≡ k z s → x ≡ answered A t
         → leaves x C ≡ outExport a b R A B k
     unfolding outExport outLeft
-    out-by y z s t C w p r e = rw (le-leb 8 (length A) l, a-report q (isReport R) h y) (ap (λ (y : Export). leaves y C) e ∙ ap (outLeft A) (r ∙ ap₂ k w p))
+    out-by l y z s t C w p r e = rw (le-leb 8 (length A) l, a-report q (isReport R) h y) (ap (λ (y : Export). leaves y C) e ∙ ap (outLeft A) (r ∙ ap₂ k w p))
 
 pub ruleset outs = (out-short, out-none, out-by)
 
