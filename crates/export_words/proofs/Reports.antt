@@ -1,7 +1,7 @@
 -- What a parse exports comes back: the words of an accepted parse are a report, of what was reported; those of a refused one are none.
 use Prim.Native.Nat.{ℕ, _%_, _^_, _≤_, _<_}
 use mathlib.Core.Path.{_≡_, refl, sym, _∙_, ap, subst}
-use mathlib.Core.Bool.{Bool, true, false}
+use mathlib.Core.Bool.{true, false}
 use mathlib.Core.List.{List, [], _∷_, _++_}
 use native.Mathlib.Omega.{arith}
 use borrow.Author.Tests.{ne-eqb, le-leb, eqb-true}
@@ -9,15 +9,15 @@ use lib.Dec.{leb, eqb}
 use lib.IntN.{ℤ}
 use lib.ListN.{length, drop}
 use mir.Syntax.{w32}
-use mir.Val.{Fits, SFits, toZ, ofZ}
+use mir.Val.{SFits, toZ, ofZ}
 use mir.Facts.{toZ-ofZ, fits-ofZ, sfits-toZ}
 use Rattle.format.specs.Tests.{pick}
 use Rattle.format.specs.Numbers.{le, signed, unsigned}
 use Rattle.format.specs.Keys.{keyOf, typeOf, dataOf, same}
-use Rattle.format.specs.Rules.{GLOBAL, bareRule, sizes, sizesIn, isRow, rowRule, valueFits, sizedTypes, andThen, rule}
-use Rattle.format.specs.Content.{Pair, Map, Content, magic, pairBytes, pairsBytes, mapBytes, mapsBytes, bytes, Found, absent, found, find, field, number, maybe, psbtOf}
+use Rattle.format.specs.Rules.{GLOBAL, bareRule, sizes, sizesIn, isRow, rowRule, valueFits, andThen, rule}
+use Rattle.format.specs.Content.{Pair, magic, pairBytes, pairsBytes, mapBytes, mapsBytes, bytes, Found, absent, found, find, field, number, maybe, psbtOf}
 use Rattle.format.specs.Parse.{parsed, out}
-use Rattle.format.specs.Told.{Told, told, maybeValue, toldWith, ToldOut, toldLeft, toldParsed, toldParse}
+use Rattle.format.specs.Told.{Told, told, maybeValue, toldWith, ToldOut, toldParsed, toldParse}
 use Rattle.format.specs.Refusals.{numberOf}
 use Rattle.format.specs.declared.PsbtError.{PsbtError}
 use Rattle.format.specs.declared.PsbtError.the-variants.{BadValue}
@@ -33,7 +33,6 @@ use Rattle.format.proofs.Numbers.{All, Byte, le-below}
 use Rattle.format.proofs.Tests.{pick-no, pick-by}
 use Rattle.format.proofs.Keys.{same-is}
 use Rattle.laws.specs.Fine.{Keeps}
-use Rattle.laws.specs.Shown.{Accepts}
 use Rattle.laws.proofs.Files.{reading-is}
 use Rattle.laws.proofs.Parsed.{accepted-is}
 use Rattle.honours.proofs.Decisions.{all-split}
@@ -153,7 +152,9 @@ pub parse-back : (f P M : List ℕ) → All Byte f → (s : Psbt) (p m : ℕ) (P
     → (isReport (wordsTold (toldParsed (Accepted s p m)) ++ rest) ≡ true) × (psbtIn (wordsTold (toldParsed (Accepted s p m)) ++ rest) ≡ s)
 parse-back f P M h s p m P′ M′ e rest = (accepted-report rest p m s, report-back rest p m s (parse-fits f P M h s p m P′ M′ e))
 
-slice-left : (A : List ℕ) → answerWords ≤ length A → (t : Told) (n : ℕ) (A′ P Q M N : List ℕ) → leavesBoth (exported n A′) Q N ≡ parseLeft A (toldWith t P M) → A′ ≡ wordsTold t ++ drop answerWords A
+-- what a parse leaves in the slice: its words, and behind them what was there
+slice-left : (A : List ℕ) → answerWords ≤ length A → (t : Told) (n : ℕ) (A′ P Q M N : List ℕ) → leavesBoth (exported n A′) Q N ≡ parseLeft A (toldWith t P M)
+    → A′ ≡ wordsTold t ++ drop answerWords A
 unfolding parseLeft answered answeredWith wordsTold
 slice-left A long (told i vs) n A′ P Q M N e =
     let x : leavesBoth (exported n A′) Q N ≡ leavesBoth (exported i (wordsOf vs ++ drop answerWords A)) P M = e ∙ rw (le-leb answerWords (length A) long) in

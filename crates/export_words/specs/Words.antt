@@ -94,17 +94,19 @@ pub data ExportWith : Type 0 where
 pub data ExportWithBoth : Type 0 where
   leavesBoth : Export → List ℕ → List ℕ → ExportWithBoth
 
--- a parse: with a slice that is short both tables stay as they are
+-- a parse's answer in the slice, and both tables
 unfoldable pub parseLeft : List ℕ → ToldParse → ExportWithBoth
 parseLeft A (toldWith t P M) = leavesBoth (answered A t) P M
 
+-- a parse: with a slice that is short both tables stay as they are
 unfoldable pub parseExport : List ℕ → List ℕ → List ℕ → ToldParse → ExportWithBoth
 parseExport A P M t = pick (leb answerWords (length A)) (parseLeft A t) (leavesBoth (exported (numberOf NoRoom) A) P M)
 
--- a call that writes a buffer, likewise; and where the words are no report 24, the buffer staying too
+-- an answer in the slice, and the buffer
 unfoldable pub outLeft : List ℕ → ToldOut → ExportWith
 outLeft A (toldLeft t B) = leaves (answered A t) B
 
+-- a call that writes a buffer: with a slice that is short the buffer stays as it is; so it does with words that are no report, which is 24
 unfoldable pub outExport : ℕ → ℕ → List ℕ → List ℕ → List ℕ → (State → Psbt → ToldOut) → ExportWith
 outExport set written R A B k =
     pick (leb answerWords (length A))
