@@ -29,10 +29,11 @@ use Rattle.laws.specs.Rooms.{pairs#, begun#, answer}
 use Rattle.laws.proofs.Files.{reading-is, one-plus-counts}
 use Rattle.laws.proofs.Parsed.{accepted-is}
 use Rattle.laws.proofs.Rooms.{room-accepts, accepted-roomy}
+use Rattle.text.specs.Say.{newline}
 use Rattle.text.specs.Spelled.{hexByte, hexOrDash}
 use Rattle.text.proofs.Rooms.{room}
 use Rattle.text.proofs.Sizes.{hex-most, decimal-most, decimal-few, signed-most}
-use Rattle.dump_text.specs.Lines.{newline, refusedLine, versionText, countsText, headLine, mapLine, keyText, pairText, pairLine, pairsText, mapText, unsignedText, unsignedLine}
+use Rattle.dump_text.specs.Lines.{refusedLine, versionText, countsText, headLine, mapLine, keyText, pairText, pairLine, pairsText, mapText, unsignedText, unsignedLine}
 use Rattle.dump_text.specs.Dump.{zeros, fresh, txLine, parsedText, dumpIn, dump}
 use Rattle.dump_text.specs.Contents.{mapLines, contentText}
 use Rattle.dump_text.proofs.Contents.{dump-accepted}
