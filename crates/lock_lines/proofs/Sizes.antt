@@ -7,6 +7,7 @@ use lib.ListN.{length, length-append}
 use Rattle.format.specs.Refusals.{numberOf}
 use Rattle.format.specs.Locks.{threshold}
 use Rattle.format.specs.declared.PsbtError.{PsbtError}
+use Rattle.format.specs.declared.PsbtError.the-variants.{BadValue}
 use Rattle.format.specs.declared.Maybe.{Maybe}
 use Rattle.format.specs.declared.Maybe.the-variants.{Absent, Present}
 use Rattle.format.specs.declared.Numbered.{Numbered}
@@ -66,7 +67,7 @@ input-most i h t l = simp length-append (omega (arith, decimal-few 2 i l, height
 -- the verdict
 lack-text : (e : PsbtError) → length (lackText e) ≤ 56
 unfolding lackText
-lack-text e = pick-by (λ (l : List ℕ). length l ≤ 56) (eqb (numberOf e) 7) _ _ (λ h. omega arith) (λ h. omega (arith, meaning-most e))
+lack-text e = pick-by (λ (l : List ℕ). length l ≤ 56) (eqb (numberOf e) (numberOf BadValue)) _ _ (λ h. omega arith) (λ h. omega (arith, meaning-most e))
 
 tx-line : (x : UnsignedTx) → length (txLine x) ≤ 103
 unfolding txLine
@@ -83,7 +84,7 @@ verdict-most (L.Refused e) x = omega (arith, refused-most e)
 verdict-most (L.Height n i) x = simp length-append (omega (arith, decimal-most i, outcome-most n x))
 verdict-most (L.Time n i) x = simp length-append (omega (arith, decimal-most i, outcome-most n x))
 verdict-most (L.Fallback n) x = omega (arith, outcome-most n x)
-verdict-most (L.BothKinds h t) x = simp length-append (omega (arith, decimal-most h, decimal-most t))
-verdict-most (L.HeightTooGreat n i) x = simp length-append (omega (arith, decimal-most n, decimal-most i))
-verdict-most (L.TimeTooSmall n i) x = simp length-append (omega (arith, decimal-most n, decimal-most i))
-verdict-most (L.Malformed i) x = simp length-append (omega (arith, decimal-most i))
+verdict-most (L.BothKinds h t) x = simp length-append (omega (arith, decimal-most h, decimal-most t, decimal-most (numberOf BadValue)))
+verdict-most (L.HeightTooGreat n i) x = simp length-append (omega (arith, decimal-most n, decimal-most i, decimal-most threshold, decimal-most (numberOf BadValue)))
+verdict-most (L.TimeTooSmall n i) x = simp length-append (omega (arith, decimal-most n, decimal-most i, decimal-most threshold, decimal-most (numberOf BadValue)))
+verdict-most (L.Malformed i) x = simp length-append (omega (arith, decimal-most i, decimal-most (numberOf BadValue)))
