@@ -12,9 +12,10 @@
    What the caller owes, and nothing checks: every pointer is valid for its length for the time of the call,
    aligned for its type and not null, with length 0 too; a slice that is written (its pointer isn't const)
    overlaps no other slice of the call. Nothing else is asked: any bytes in any slice, any length and any number
-   get an answer. Tables that don't fit the file, damaged or mixed up, are refused with FASTPSBT_BAD_INDEX or
-   answered by what they say of the file; a place that is answered always lies in the file (in `scripts`, where
-   SCRIPT says so).
+   get an answer. A `report` that isn't the answer of an accepted parse (its first word isn't 7) is refused with
+   FASTPSBT_BAD_INDEX before anything else is looked at. Tables that don't fit the file, damaged or mixed up, are
+   refused with FASTPSBT_BAD_INDEX too or answered by what they say of the file; a place that is answered always
+   lies in the file (in `scripts`, where SCRIPT says so).
 
    What comes back. The result is FASTPSBT_OK or the number of a refusal. `answer` takes FASTPSBT_ANSWER_WORDS
    words: how many values there are, the values, and zeros; words behind stay. An `answer` that is shorter gives
@@ -80,7 +81,7 @@ extern "C" {
 #define FASTPSBT_TOO_LONG 21              /* the file is longer than FASTPSBT_MAX_FILE */
 #define FASTPSBT_PAIRS_FULL 22            /* no free entry in `pairs` */
 #define FASTPSBT_MAPS_FULL 23             /* no free entry in `maps` */
-#define FASTPSBT_BAD_INDEX 24             /* a table isn't fit for the file */
+#define FASTPSBT_BAD_INDEX 24             /* `report` is no accepted parse's, or a table isn't fit for the file */
 #define FASTPSBT_NO_ROOM 25               /* a lent buffer, or `answer`, is too short */
 
 /* The first value of LOCK: what decided, with FASTPSBT_OK. */
@@ -100,7 +101,8 @@ extern "C" {
    length, value start, value length), each map that ends the next FASTPSBT_MAP_WORDS of `maps` (first pair,
    number of pairs). Only whole entries count as room: FASTPSBT_PAIRS_FULL or FASTPSBT_MAPS_FULL where it isn't
    enough. The entries past those used keep what they held, after a refusal too. Answer: REPORT. Keep these
-   words: they are the `report` of every other call. After a refusal they are none. */
+   words: they are the `report` of every other call. After a refusal they are none, and every other call refuses
+   them with FASTPSBT_BAD_INDEX. */
 uint64_t fastpsbt_parse(
     const uint8_t *file, size_t file_len, uint32_t *pairs, size_t pairs_len, uint32_t *maps, size_t maps_len,
     uint64_t *answer, size_t answer_len);

@@ -10,7 +10,7 @@ static uint64_t report[FASTPSBT_ANSWER_WORDS], answer[FASTPSBT_ANSWER_WORDS];
 static size_t file_len;
 
 #define LEN(slice) (sizeof(slice) / sizeof((slice)[0]))
-/* What every call on a parsed file is lent first. */
+/* What every call on a parsed file is lent first: the report is the accepted parse's, any other is FASTPSBT_BAD_INDEX. */
 #define PSBT file, file_len, pairs, LEN(pairs), maps, LEN(maps), report, LEN(report)
 #define ANSWER answer, LEN(answer)
 

@@ -14,6 +14,7 @@ pub struct Psbt<'a> {
     file: &'a [u8],
     pairs: &'a [u32],
     maps: &'a [u32],
+    /// An accepted parse's words: any others are refused with 24 by every call.
     report: Words,
 }
 

@@ -1,91 +1,35 @@
 -- Calls on the tables of two files with alike contents answer alike.
-use mathlib.Core.Path.{_≡_, refl, sym, _∙_, ap, ap₂, subst}
+use mathlib.Core.Path.{_≡_, refl, sym, _∙_, ap, ap₂}
 use mathlib.Core.List.{List, [], _∷_, _++_, map}
-use mathlib.Core.Bool.{Bool, true, false, _&&_}
-use Prim.Native.Nat.{ℕ, zero, suc, _+_, _≤_, _<_}
+use mathlib.Core.Bool.{Bool, true, false}
+use Prim.Native.Nat.{ℕ, suc, _+_, _≤_}
 use native.Mathlib.Omega.{arith}
-use borrow.Author.Tests.{leb-true, ltb-true}
-use lib.Dec.{leb, ltb}
-use lib.ListN.{length, take, drop, length-take, length-drop, length-append, length-map}
-use Rattle.format.specs.Tests.{pick, keepIf, only, every}
-use Rattle.format.specs.Numbers.{le}
-use Rattle.format.specs.Keys.{keyOf, same}
-use Rattle.format.specs.Rules.{GLOBAL, INPUT, OUTPUT, listed}
-use Rattle.format.specs.Content.{Pair, Map, Content, mapsOf, bytes, found, find, field, psbtOf}
+use lib.ListN.{length, take, drop, length-append, length-map}
+use Rattle.format.specs.Tests.{keepIf, only}
+use Rattle.format.specs.Keys.{typeOf, keyOf}
+use Rattle.format.specs.Rules.{GLOBAL, INPUT, OUTPUT, span, within, listedTypes, listed}
+use Rattle.format.specs.Content.{Pair, Map, Content, mapsOf, bytes, field, psbtOf}
 use Rattle.format.specs.Reading.{limit, accepted, reading}
-use Rattle.format.specs.Entries.{keyIn, valueIn, shown}
-use Rattle.format.specs.Tables.{inFile, Held, no, holds, held, heldInput, heldOutput, mapsReported, View, shows, viewOf, view, gathered, gatherBy, gather}
-use Rattle.format.specs.Lookups.{place, Length, exactly, lengthFits, ofLength, asked, numberAt, list}
-use Rattle.format.specs.Fields.{partField, numberField}
+use Rattle.format.specs.Tables.{Held, held, heldInput, heldOutput, mapsReported, View, viewOf, view, gathered, gatherBy, gather}
+use Rattle.format.specs.Lookups.{Length, anyLength, asked, look}
+use Rattle.format.specs.Fields.{partField, nonWitnessUtxo, witnessUtxo, sighashType, redeemScript, witnessScript, finalScriptsig, finalScriptwitness, previousTxid, outputIndex, sequence, requiredTimeLocktime, requiredHeightLocktime, spTweak, outRedeemScript, outWitnessScript, amount, script, spV0Info, spV0Label, scanLookup, globalShare, globalProof, inputShare, inputProof, musigLookup, pubNonce, partialSig, inputParticipants, outputParticipants}
 use Rattle.format.specs.Locks.{In, inOf}
 use Rattle.format.specs.Scripts.{Out, outOf, Reported, reports, reportedBy, reported, setBy, setScripts}
 use Rattle.format.specs.Transaction.{txReported, written, unsignedTx, lockBy, lockDecided}
-use Rattle.format.specs.declared.PsbtError.the-variants.{BadValue, OutOfRange}
 use Rattle.format.specs.declared.Psbt.{Psbt}
-use Rattle.format.specs.declared.PairEntry.{PairEntry}
-use Rattle.format.specs.declared.Looked.{Looked}
-use Rattle.format.specs.declared.Looked.the-variants.{Refused, Absent, At}
-use Rattle.format.specs.declared.Numbered.{Numbered}
-use Rattle.format.specs.declared.Numbered.the-variants as N
-use Rattle.format.proofs.Tests.{pick-ap, and-left, and-right}
 use Rattle.laws.specs.Fine.{RisesFile}
 use Rattle.laws.specs.Shown.{bare, viewBy, pairsIn, pairTable, mapTable, Room}
 use Rattle.laws.proofs.Files.{reading-is, one-plus-counts}
 use Rattle.laws.proofs.Parsed.{parse-is}
-use Rattle.laws.proofs.Shown.{held-shows, view-is}
-use Rattle.laws.proofs.Listings.{listing-is}
+use Rattle.laws.proofs.Shown.{view-is}
 use Rattle.laws.proofs.Found.{find-bare}
-use Rattle.claims.specs.Answers.{Answer, refuses, lacks, gives, answerAt, ofLengthIn, lookIn, listAt, listIn}
+use Rattle.claims.specs.Answers.{lookIn, countIn, participantIn, utxoIn, scriptIn, listIn, nthIn}
 use Rattle.claims.specs.Newer.{AddedFile, strike, strikeMap, struck, kinds, asks, reportOf, insOf, outsOf, Alike}
-use Rattle.claims.specs.Calls.{ParsesTo, SameCalls}
+use Rattle.claims.specs.Calls.{ParsesTo, bytesBy, OfMap, SameCalls}
+use Rattle.claims.proofs.Shapes.{held-sound, input-sound, output-sound, By, asked-by, count-by, participant-by, partIn, part-in, part-by, utxo-by, utxo-part-by, bytesWith, script-by, script-part-by, list-by, nth-by}
+use Rattle.claims.proofs.Views.{input-shows, output-shows}
+use Rattle.claims.proofs.Agree.{Agree, agree-by, call-alike, look-alike, bytes-alike, number-alike, pairs-alike, script-goes}
 use Rattle.claims.proofs.Newers.{newer, older}
-
--- a lookup by place answers what is shown, as entries lie in the file
-value-is : (f : List ℕ) (l : Length) (e : PairEntry) → inFile f e ≡ true → answerAt f (ofLength l (At (e .value) (e .vlen))) ≡ ofLengthIn l (found (valueIn f e))
-unfolding answerAt ofLength ofLengthIn valueIn inFile
-value-is f l e h =
-    let w : e .value + e .vlen ≤ length f =
-    leb-true _ _ (and-left (leb (e .value + e .vlen) (length f)) (ltb 0 (e .klen)) (and-right (leb (e .key + e .klen) (length f)) (leb (e .value + e .vlen) (length f) && ltb 0 (e .klen)) h)) in
-    let n : length (take (e .vlen) (drop (e .value) f)) ≡ e .vlen = rw (length-take, length-drop) (omega arith) in
-    rw n (pick-ap (answerAt f) (lengthFits l (e .vlen)) (At (e .value) (e .vlen)) (Refused BadValue))
-
-place-is : (f : List ℕ) (l : Length) (key : List ℕ) (es : List PairEntry) → every (inFile f) es ≡ true
-    → answerAt f (ofLength l (place f key es)) ≡ ofLengthIn l (find key (map (shown f) es))
-unfolding place find shown every answerAt ofLength ofLengthIn
-place-is f l key [] h = refl
-place-is f l key (e ∷ es) h =
-    let t = same key (keyIn f e) in
-    pick-ap (λ y. answerAt f (ofLength l y)) t _ _
-    ∙ ap₂ (pick t) (value-is f l e (and-left (inFile f e) (every (inFile f) es) h)) (place-is f l key es (and-right (inFile f e) (every (inFile f) es) h))
-    ∙ sym (pick-ap (ofLengthIn l) t _ _)
-
-pub asked-is : (f P M : List ℕ) (s : Psbt) (m : ℕ) (key : List ℕ) (ok : Bool) (l : Length) (h : Held) → held f P M s m ≡ h → answerAt f (asked ok l f key h) ≡ lookIn ok l key (viewOf f h)
-unfolding asked lookIn viewOf answerAt
-asked-is f P M s m key ok l (no e) q = refl
-asked-is f P M s m key ok l (holds es) q =
-    pick-ap (answerAt f) ok _ _ ∙ ap (λ (x : Answer). pick ok x (refuses BadValue)) (place-is f l key es (held-shows f P M s m es q .0))
-
--- a number is known by the answer
-unfoldable pub numberIn : Answer → Numbered
-numberIn (refuses e) = N.Refused e
-numberIn lacks = N.Absent
-numberIn (gives v) = N.Is (le v)
-
-pub number-in : (f : List ℕ) (y : Looked) → numberAt f y ≡ numberIn (answerAt f y)
-unfolding numberAt numberIn answerAt
-number-in f (Refused e) = refl
-number-in f Absent = refl
-number-in f (At s n) = refl
-
-number-is : (f g : List ℕ) (t w : ℕ) (x y : Held) → answerAt f (asked true (exactly w) f (keyOf t []) x) ≡ answerAt g (asked true (exactly w) g (keyOf t []) y) → numberField t w f x ≡ numberField t w g y
-unfolding numberField partField
-number-is f g t w x y h = number-in f _ ∙ ap numberIn h ∙ sym (number-in g _)
-
--- a listing names what is shown of its type, as keys rise
-pub list-in : (f P M : List ℕ) (s : Psbt) (m t : ℕ) (h : Held) → held f P M s m ≡ h → listAt f (list f t h) h ≡ listIn t (viewOf f h)
-unfolding list listAt listIn viewOf
-list-in f P M s m t (no e) q = refl
-list-in f P M s m t (holds es) q = ap shows (listing-is t [] (map (shown f) es) (held-shows f P M s m es q .1))
 
 -- what a transaction takes from a map asks nothing of the spelling
 field-bare : (t : ℕ) (ps : List Pair) → field t (map bare ps) ≡ field t ps
@@ -118,58 +62,29 @@ outs-are [] [] = refl
 outs-are [] (n ∷ ns) = ap₂ {C = List Out} (λ x xs. x ∷ xs) (out-bare (n .pairs)) (outs-are [] ns)
 outs-are (m ∷ ms) ns = outs-are ms ns
 
--- the test of an arm may be used in it
-arm : {A : Type 0} (t : Bool) (x y z : A) → (t ≡ true → x ≡ y) → pick t x z ≡ pick t y z
-arm true x y z h = h refl
-arm false x y z h = refl
-
--- a listed type of an input is asked of the inputs, one of an output behind them
-asks-in : (key : List ℕ) (ms : List Map) (ks : List ℕ) (i : ℕ) → listed INPUT key ≡ true → i < length ms → asks i (map (λ (x : Map). INPUT) ms ++ ks) key ≡ true
-unfolding asks
-asks-in key [] ks i h l = absurd (omega arith)
-asks-in key (m ∷ ms) ks zero h l = h
-asks-in key (m ∷ ms) ks (suc i) h l = asks-in key ms ks i h (omega arith)
-
-asks-out : (key : List ℕ) (ms ns : List Map) (i : ℕ) → listed OUTPUT key ≡ true → length ms ≤ i → asks i (map (λ (x : Map). INPUT) ms ++ map (λ (x : Map). OUTPUT) ns) key ≡ true
-unfolding asks
-asks-out key [] [] i h l = refl
-asks-out key [] (n ∷ ns) zero h l = h
-asks-out key [] (n ∷ ns) (suc i) h l = asks-out key [] ns i h (omega arith)
-asks-out key (m ∷ ms) ns zero h l = absurd (omega arith)
-asks-out key (m ∷ ms) ns (suc i) h l = asks-out key ms ns i h (omega arith)
-
 -- an accepted file's tables answer as its content
 module _ (f : List ℕ) (c : Content) (P M : List ℕ) (e : reading f ≡ accepted c) where
-  table-lookup : (m : ℕ) (key : List ℕ) (ok : Bool) (l : Length)
-      → answerAt f (asked ok l f key (held f (pairTable c P) (mapTable c M) (reportOf c) m)) ≡ lookIn ok l key (viewBy m (mapsOf c))
-  unfolding reportOf view
-  table-lookup m key ok l = asked-is f (pairTable c P) (mapTable c M) (reportOf c) m key ok l _ refl ∙ ap (lookIn ok l key) (view-is f c P M e m)
-
-  table-list : (m t : ℕ) → let h = held f (pairTable c P) (mapTable c M) (reportOf c) m in listAt f (list f t h) h ≡ listIn t (viewBy m (mapsOf c))
-  unfolding reportOf view
-  table-list m t = list-in f (pairTable c P) (mapTable c M) (reportOf c) m t _ refl ∙ ap (listIn t) (view-is f c P M e m)
-
-  table-input : (i : ℕ) (key : List ℕ) (ok : Bool) (l : Length) → answerAt f (asked ok l f key (heldInput f (pairTable c P) (mapTable c M) (reportOf c) i))
-      ≡ pick (ltb i ((reportOf c) .inputs)) (lookIn ok l key (viewBy (1 + i) (mapsOf c))) (refuses OutOfRange)
-  unfolding heldInput asked answerAt
-  table-input i key ok l =
-      pick-ap (λ (h : Held). answerAt f (asked ok l f key h)) (ltb i ((reportOf c) .inputs)) _ _
-      ∙ ap (λ (x : Answer). pick (ltb i ((reportOf c) .inputs)) x (refuses OutOfRange)) (table-lookup (1 + i) key ok l)
-
-  table-output : (i : ℕ) (key : List ℕ) (ok : Bool) (l : Length) → answerAt f (asked ok l f key (heldOutput f (pairTable c P) (mapTable c M) (reportOf c) i))
-      ≡ pick (ltb i ((reportOf c) .outputs)) (lookIn ok l key (viewBy (1 + ((reportOf c) .inputs + i)) (mapsOf c))) (refuses OutOfRange)
-  unfolding heldOutput asked answerAt
-  table-output i key ok l =
-      pick-ap (λ (h : Held). answerAt f (asked ok l f key h)) (ltb i ((reportOf c) .outputs)) _ _
-      ∙ ap (λ (x : Answer). pick (ltb i ((reportOf c) .outputs)) x (refuses OutOfRange)) (table-lookup (1 + ((reportOf c) .inputs + i)) key ok l)
-
   ins-count : (reportOf c) .inputs ≡ length (c .ins)
   unfolding reportOf psbtOf
   ins-count = sym (reading-is f c e .1 .ins#)
 
+  outs-count : (reportOf c) .outputs ≡ length (c .outs)
+  unfolding reportOf psbtOf
+  outs-count = sym (reading-is f c e .1 .outs#)
+
   maps-count : mapsReported (reportOf c) ≡ length (mapsOf c)
   unfolding reportOf
   maps-count = sym (one-plus-counts f c e)
+
+  table-shows : (m : ℕ) → viewOf f (held f (pairTable c P) (mapTable c M) (reportOf c) m) ≡ viewBy m (mapsOf c)
+  unfolding reportOf view
+  table-shows m = view-is f c P M e m
+
+  table-input : (i : ℕ) → viewOf f (heldInput f (pairTable c P) (mapTable c M) (reportOf c) i) ≡ viewBy i (c .ins)
+  table-input = input-shows f (pairTable c P) (mapTable c M) (reportOf c) c table-shows ins-count outs-count
+
+  table-output : (i : ℕ) → viewOf f (heldOutput f (pairTable c P) (mapTable c M) (reportOf c) i) ≡ viewBy i (c .outs)
+  table-output = output-shows f (pairTable c P) (mapTable c M) (reportOf c) c table-shows ins-count outs-count
 
   table-view : (j k : ℕ) → k ≡ 0 + j → view f (pairTable c P) (mapTable c M) (reportOf c) k ≡ viewBy j (mapsOf c)
   unfolding reportOf
@@ -181,7 +96,7 @@ module _ (f : List ℕ) (c : Content) (P M : List ℕ) (e : reading f ≡ accept
       let n : 1 + length (c .ins) ≡ suc (length (c .ins)) = omega arith in
       ap₂ reports (ins-are (c .ins) (c .outs)) (ap (λ (k : ℕ). map outOf (drop k (map pairsOf (mapsOf c)))) n ∙ outs-are (c .ins) (c .outs))
 
-  table-reported : reported (view f (pairTable c P) (mapTable c M) (reportOf c)) (reportOf c) ≡ reports (insOf c) (outsOf c)
+  pub table-reported : reported (view f (pairTable c P) (mapTable c M) (reportOf c)) (reportOf c) ≡ reports (insOf c) (outsOf c)
   unfolding reported
   table-reported =
       ap₂ (λ (n k : ℕ). reportedBy n (gather (view f (pairTable c P) (mapTable c M) (reportOf c)) 0 k)) ins-count maps-count
@@ -190,28 +105,30 @@ module _ (f : List ℕ) (c : Content) (P M : List ℕ) (e : reading f ≡ accept
 
 -- so where contents are alike, calls are
 module _ (f : List ℕ) (c : Content) (P M : List ℕ) (e : reading f ≡ accepted c) (g : List ℕ) (d : Content) (Q N : List ℕ) (k : reading g ≡ accepted d) (a : Alike c d) where
-  input-alike : (i : ℕ) (key : List ℕ) → listed INPUT key ≡ true → (ok : Bool) (l : Length)
-      → pick (ltb i ((reportOf c) .inputs)) (lookIn ok l key (viewBy (1 + i) (mapsOf c))) (refuses OutOfRange)
-      ≡ pick (ltb i ((reportOf d) .inputs)) (lookIn ok l key (viewBy (1 + i) (mapsOf d))) (refuses OutOfRange)
-  unfolding asks kinds
-  input-alike i key h ok l =
-      let n : 1 + i ≡ suc i = omega arith in
-      let w : (reportOf c) .inputs ≡ length (c .ins) = ins-count f c P M e in
-      arm (ltb i ((reportOf c) .inputs)) _ _ _
-      (λ q. let z : i < length (c .ins) = subst (λ (x : ℕ). i < x) w (ltb-true i _ q) in
-      a .same-lookups (1 + i) key (rw n (asks-in key (c .ins) _ i h z)) ok l)
-      ∙ ap (λ (s : Psbt). pick (ltb i (s .inputs)) (lookIn ok l key (viewBy (1 + i) (mapsOf d))) (refuses OutOfRange)) (a .same-report)
+  -- maps by their kinds: the global map, input number i, output number i
+  global-agree : Agree GLOBAL f (held f (pairTable c P) (mapTable c M) (reportOf c) 0) g (held g (pairTable d Q) (mapTable d N) (reportOf d) 0)
+  unfolding struck mapsOf viewBy
+  global-agree =
+      agree-by GLOBAL (c .global ∷ []) (d .global ∷ []) (ap (λ (x : Content). x .global ∷ []) (a .same-listed)) 0 (held-sound f _ _ _ 0) (table-shows f c P M e 0) (held-sound g _ _ _ 0) (table-shows g d Q N k 0)
 
-  output-alike : (i : ℕ) (key : List ℕ) → listed OUTPUT key ≡ true → (ok : Bool) (l : Length)
-      → pick (ltb i ((reportOf c) .outputs)) (lookIn ok l key (viewBy (1 + ((reportOf c) .inputs + i)) (mapsOf c))) (refuses OutOfRange)
-      ≡ pick (ltb i ((reportOf d) .outputs)) (lookIn ok l key (viewBy (1 + ((reportOf d) .inputs + i)) (mapsOf d))) (refuses OutOfRange)
-  unfolding asks kinds
-  output-alike i key h ok l =
-      let r : ℕ = (reportOf c) .inputs in
-      let n : 1 + (r + i) ≡ suc (r + i) = omega arith in
-      let w : r ≡ length (c .ins) = ins-count f c P M e in
-      arm (ltb i ((reportOf c) .outputs)) _ _ _ (λ q. a .same-lookups (1 + (r + i)) key (rw n (asks-out key (c .ins) (c .outs) (r + i) h (omega arith))) ok l)
-      ∙ ap (λ (s : Psbt). pick (ltb i (s .outputs)) (lookIn ok l key (viewBy (1 + (s .inputs + i)) (mapsOf d))) (refuses OutOfRange)) (a .same-report)
+  input-agree : (i : ℕ) → Agree INPUT f (heldInput f (pairTable c P) (mapTable c M) (reportOf c) i) g (heldInput g (pairTable d Q) (mapTable d N) (reportOf d) i)
+  unfolding struck
+  input-agree i =
+      agree-by INPUT (c .ins) (d .ins) (ap (λ (x : Content). x .ins) (a .same-listed)) i (input-sound f _ _ _ i) (table-input f c P M e i) (input-sound g _ _ _ i) (table-input g d Q N k i)
+
+  output-agree : (i : ℕ) → Agree OUTPUT f (heldOutput f (pairTable c P) (mapTable c M) (reportOf c) i) g (heldOutput g (pairTable d Q) (mapTable d N) (reportOf d) i)
+  unfolding struck
+  output-agree i =
+      agree-by OUTPUT (c .outs) (d .outs) (ap (λ (x : Content). x .outs) (a .same-listed)) i (output-sound f _ _ _ i) (table-output f c P M e i) (output-sound g _ _ _ i) (table-output g d Q N k i)
+
+  -- maps by their numbers
+  of-map : {A : Type 0} (call : List ℕ → Held → A) (F : View → A) → By call F → (m : ℕ) → F (viewBy m (mapsOf c)) ≡ F (viewBy m (mapsOf d))
+      → OfMap f (pairTable c P) (mapTable c M) (reportOf c) g (pairTable d Q) (mapTable d N) (reportOf d) m call
+  of-map call F is m q =
+      is f _ (held-sound f _ _ _ m) ∙ ap F (table-shows f c P M e m) ∙ q ∙ sym (ap F (table-shows g d Q N k m)) ∙ sym (is g _ (held-sound g _ _ _ m))
+
+  map-bytes : (ok : Bool) (l : Length) (key : List ℕ) (m : ℕ) → asks m (kinds c) key ≡ true → OfMap f (pairTable c P) (mapTable c M) (reportOf c) g (pairTable d Q) (mapTable d N) (reportOf d) m (bytesBy (λ x h. asked ok l x key h))
+  map-bytes ok l key m h = of-map _ (lookIn ok l key) (asked-by ok l key) m (a .same-lookups m key h ok l)
 
   -- what is a function of the report and of what all maps show
   by-report : {A : Type 0} (F : Psbt → Reported → A) → F (reportOf c) (reported (view f (pairTable c P) (mapTable c M) (reportOf c)) (reportOf c))
@@ -219,27 +136,71 @@ module _ (f : List ℕ) (c : Content) (P M : List ℕ) (e : reading f ≡ accept
   by-report F =
       ap (F (reportOf c)) (table-reported f c P M e) ∙ (λ j. F (a .same-report j) (reports (a .same-ins j) (a .same-outs j))) ∙ sym (ap (F (reportOf d)) (table-reported g d Q N k))
 
-  inputs-same : (i : ℕ) (key : List ℕ) → listed INPUT key ≡ true → (ok : Bool) (l : Length) → answerAt f (asked ok l f key (heldInput f (pairTable c P) (mapTable c M) (reportOf c) i))
-      ≡ answerAt g (asked ok l g key (heldInput g (pairTable d Q) (mapTable d N) (reportOf d) i))
-  inputs-same i key h ok l = table-input f c P M e i key ok l ∙ input-alike i key h ok l ∙ sym (table-input g d Q N k i key ok l)
-
-  outputs-same : (i : ℕ) (key : List ℕ) → listed OUTPUT key ≡ true → (ok : Bool) (l : Length) → answerAt f (asked ok l f key (heldOutput f (pairTable c P) (mapTable c M) (reportOf c) i))
-      ≡ answerAt g (asked ok l g key (heldOutput g (pairTable d Q) (mapTable d N) (reportOf d) i))
-  outputs-same i key h ok l = table-output f c P M e i key ok l ∙ output-alike i key h ok l ∙ sym (table-output g d Q N k i key ok l)
-
-  same-calls : SameCalls (kinds c) f (pairTable c P) (mapTable c M) (reportOf c) g (pairTable d Q) (mapTable d N) (reportOf d)
-  unfolding lockDecided setScripts unsignedTx
+  -- every type that a call asks by itself is listed: `refl`
+  same-calls : SameCalls f (pairTable c P) (mapTable c M) (reportOf c) g (pairTable d Q) (mapTable d N) (reportOf d) (kinds c)
+  unfolding lockDecided setScripts unsignedTx look partField scanLookup musigLookup nonWitnessUtxo witnessUtxo sighashType redeemScript witnessScript finalScriptsig finalScriptwitness previousTxid outputIndex sequence requiredTimeLocktime requiredHeightLocktime spTweak outRedeemScript outWitnessScript amount script spV0Info spV0Label globalShare globalProof inputShare inputProof pubNonce partialSig inputParticipants outputParticipants asks kinds listed typeOf keyOf within listedTypes span
   same-calls = record {
     report = a .same-report;
-    lookups = λ m key h ok l. table-lookup f c P M e m key ok l ∙ a .same-lookups m key h ok l ∙ sym (table-lookup g d Q N k m key ok l);
-    input-lookups = inputs-same;
-    output-lookups = outputs-same;
-    input-numbers = λ i t w h. number-is f g t w _ _ (inputs-same i (keyOf t []) h true (exactly w));
-    output-numbers = λ i t w h. number-is f g t w _ _ (outputs-same i (keyOf t []) h true (exactly w));
-    lists = λ m t h. table-list f c P M e m t ∙ a .same-lists m t h ∙ sym (table-list g d Q N k m t);
-    lock = by-report lockBy;
-    scripts = λ x buffer t T. by-report (λ s r. setBy buffer t T x r);
-    transaction = λ t T B. by-report (λ s r. written t B (txReported s t T r));
+    part-of = λ y z h. part-in f y ∙ ap (partIn (λ v. v)) h ∙ sym (part-in g z);
+    global-shows = global-agree .same;
+    input-shows = λ i. input-agree i .same;
+    output-shows = λ i. output-agree i .same;
+    lookups = λ m key h ok l. map-bytes ok l key m h;
+    input-lookups = λ key h ok l i. bytes-alike (input-agree i) ok l key h;
+    output-lookups = λ key h ok l i. bytes-alike (output-agree i) ok l key h;
+    input-numbers = λ t w h i. number-alike (input-agree i) t w h;
+    output-numbers = λ t w h i. number-alike (output-agree i) t w h;
+    map-get = λ m t x h. map-bytes true anyLength (keyOf t x) m h;
+    map-get-part = λ m t x h. of-map _ (λ v. partIn (λ y. y) (lookIn true anyLength (keyOf t x) v)) (part-by true anyLength (keyOf t x)) m (ap (partIn (λ y. y)) (a .same-lookups m (keyOf t x) h true anyLength));
+    map-list = λ m t h. of-map _ (listIn t) (list-by t) m (a .same-lists m t h);
+    map-nth = λ m t j h. of-map _ (λ v. nthIn j (listIn t v)) (nth-by t j) m (ap (nthIn j) (a .same-lists m t h));
+    input-iter-keys = λ t h i. pairs-alike (input-agree i) t h;
+    output-iter-keys = λ t h i. pairs-alike (output-agree i) t h;
+    global-get-sp-ecdh-share = λ x. bytes-alike global-agree _ _ _ refl;
+    global-get-sp-dleq-proof = λ x. bytes-alike global-agree _ _ _ refl;
+    global-sp-ecdh-shares = pairs-alike global-agree _ refl;
+    global-sp-dleq-proofs = pairs-alike global-agree _ refl;
+    input-non-witness-utxo = λ i. bytes-alike (input-agree i) _ _ _ refl;
+    input-witness-utxo = λ i. bytes-alike (input-agree i) _ _ _ refl;
+    input-sighash-type = λ i. number-alike (input-agree i) _ _ refl;
+    input-redeem-script = λ i. bytes-alike (input-agree i) _ _ _ refl;
+    input-witness-script = λ i. bytes-alike (input-agree i) _ _ _ refl;
+    input-final-scriptsig = λ i. bytes-alike (input-agree i) _ _ _ refl;
+    input-final-scriptwitness = λ i. bytes-alike (input-agree i) _ _ _ refl;
+    input-previous-txid = λ i. bytes-alike (input-agree i) _ _ _ refl;
+    input-output-index = λ i. number-alike (input-agree i) _ _ refl;
+    input-sequence = λ i. number-alike (input-agree i) _ _ refl;
+    input-required-time-locktime = λ i. number-alike (input-agree i) _ _ refl;
+    input-required-height-locktime = λ i. number-alike (input-agree i) _ _ refl;
+    input-sp-tweak = λ i. bytes-alike (input-agree i) _ _ _ refl;
+    input-bip32-derivations = λ i. pairs-alike (input-agree i) _ refl;
+    input-get-sp-ecdh-share = λ x i. bytes-alike (input-agree i) _ _ _ refl;
+    input-get-sp-dleq-proof = λ x i. bytes-alike (input-agree i) _ _ _ refl;
+    input-sp-ecdh-shares = λ i. pairs-alike (input-agree i) _ refl;
+    input-sp-dleq-proofs = λ i. pairs-alike (input-agree i) _ refl;
+    input-sp-spend-bip32-derivations = λ i. pairs-alike (input-agree i) _ refl;
+    input-get-musig2-pub-nonce = λ p x l i. bytes-alike (input-agree i) _ _ _ refl;
+    input-get-musig2-partial-sig = λ p x l i. bytes-alike (input-agree i) _ _ _ refl;
+    input-get-musig2-participant-pubkeys = λ x l i. bytes-alike (input-agree i) _ _ _ refl;
+    input-get-musig2-participant-count = λ x l i. look-alike (input-agree i) _ countIn _ _ _ (count-by _ _ _) refl;
+    input-get-musig2-participant = λ x l n i. look-alike (input-agree i) _ (participantIn n) _ _ _ (participant-by _ _ _ n) refl;
+    input-get-witness-utxo = λ i. look-alike (input-agree i) _ utxoIn _ _ _ utxo-by refl;
+    input-get-witness-utxo-script = λ i. look-alike (input-agree i) _ (λ y. partIn (λ z. z .1) (utxoIn y)) _ _ _ utxo-part-by refl;
+    output-redeem-script = λ i. bytes-alike (output-agree i) _ _ _ refl;
+    output-witness-script = λ i. bytes-alike (output-agree i) _ _ _ refl;
+    output-amount = λ i. number-alike (output-agree i) _ _ refl;
+    output-script = λ i. bytes-alike (output-agree i) _ _ _ refl;
+    output-sp-v0-info = λ i. bytes-alike (output-agree i) _ _ _ refl;
+    output-sp-v0-label = λ i. number-alike (output-agree i) _ _ refl;
+    output-bip32-derivations = λ i. pairs-alike (output-agree i) _ refl;
+    output-get-musig2-participant-pubkeys = λ x i. bytes-alike (output-agree i) _ _ _ refl;
+    output-get-musig2-participant-count = λ x i. look-alike (output-agree i) _ countIn _ _ _ (count-by _ _ _) refl;
+    output-get-musig2-participant = λ x n i. look-alike (output-agree i) _ (participantIn n) _ _ _ (participant-by _ _ _ n) refl;
+    output-output-script = λ t T n i. call-alike (output-agree i) _ (scriptIn t T n) (script-by t T n) (script-goes t T n);
+    output-output-script-part = λ t T n i. call-alike (output-agree i) _ (λ v. partIn (bytesWith T) (scriptIn t T n v)) (script-part-by t T n) (λ ps. ap (partIn (bytesWith T)) (script-goes t T n ps));
+    lock-decided = by-report lockBy;
+    set-sp-output-scripts = λ x buffer t T. by-report (λ s r. setBy buffer t T x r);
+    unsigned-tx = λ t T B. by-report (λ s r. written t B (txReported s t T r));
   }
 
 -- striking asks no more room
@@ -281,7 +242,7 @@ room-parses f c P M e r = parse-is f c P M e r
 -- with room for each, both files parse, and every call of a listed type answers the same: pairs added
 pub newer-calls : (f : List ℕ) (c d : Content) → reading f ≡ accepted c → AddedFile c d → RisesFile d → length (bytes d) ≤ limit
     → (P M Q N : List ℕ) → Room c P M → Room d Q N
-    → ParsesTo f P M c × ParsesTo (bytes d) Q N d × SameCalls (kinds c) f (pairTable c P) (mapTable c M) (reportOf c) (bytes d) (pairTable d Q) (mapTable d N) (reportOf d)
+    → ParsesTo f P M c × ParsesTo (bytes d) Q N d × SameCalls f (pairTable c P) (mapTable c M) (reportOf c) (bytes d) (pairTable d Q) (mapTable d N) (reportOf d) (kinds c)
 newer-calls f c d e a r s P M Q N x y =
     let w = newer f c d e a r s in
     (room-parses f c P M e x, room-parses (bytes d) d Q N (w .0) y, same-calls f c P M e (bytes d) d Q N (w .0) (w .1))
@@ -289,7 +250,7 @@ newer-calls f c d e a r s P M Q N x y =
 -- and pairs struck: tables with room for the file have room for what is left
 pub older-calls : (f : List ℕ) (c : Content) → reading f ≡ accepted c → (P M : List ℕ) → Room c P M
     → ParsesTo f P M c × ParsesTo (bytes (struck c)) P M (struck c)
-    × SameCalls (kinds (struck c)) (bytes (struck c)) (pairTable (struck c) P) (mapTable (struck c) M) (reportOf (struck c)) f (pairTable c P) (mapTable c M) (reportOf c)
+    × SameCalls (bytes (struck c)) (pairTable (struck c) P) (mapTable (struck c) M) (reportOf (struck c)) f (pairTable c P) (mapTable c M) (reportOf c) (kinds (struck c))
 older-calls f c e P M r =
     let w = older f c e in (
       room-parses f c P M e r,

@@ -1,6 +1,10 @@
+pub mod Shapes
+pub mod Views
 pub mod Strikes
+pub mod Agree
 pub mod Newers
 pub mod Calls
 pub mod Asked
+pub mod Ones
 pub mod Outcomes
 pub mod Meaning

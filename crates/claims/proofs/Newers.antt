@@ -146,7 +146,7 @@ up d h f r s = record {
 -- answers through the listed pairs
 alike-by : (x c d : Content) → Alike x c → Alike x d → Alike c d
 alike-by x c d a b =
-    alike-of c d (sym (a .same-report) ∙ b .same-report) (sym (a .same-kinds) ∙ b .same-kinds)
+    alike-of c d (sym (a .same-listed) ∙ b .same-listed) (sym (a .same-report) ∙ b .same-report) (sym (a .same-kinds) ∙ b .same-kinds)
     (λ m key l ok n. let k = ap (λ (ks : List ℕ). asks m ks key) (a .same-kinds) ∙ l in sym (a .same-lookups m key k ok n) ∙ b .same-lookups m key k ok n)
     (λ m t l. let k = ap (λ (ks : List ℕ). asks m ks (keyOf t [])) (a .same-kinds) ∙ l in sym (a .same-lists m t k) ∙ b .same-lists m t k)
     (sym (a .same-ins) ∙ b .same-ins) (sym (a .same-outs) ∙ b .same-outs)

@@ -20,7 +20,7 @@ use Rattle.format.proofs.Tests.{clash, no-by}
 use Rattle.format.proofs.Keys.{same-is}
 use Rattle.laws.specs.Shown.{bare, viewBy}
 use Rattle.claims.specs.Answers.{refuses, ofLengthIn, lookIn, listIn}
-use Rattle.claims.specs.Newer.{strike, strikeMap, struck, kinds, asks, reportOf, insOf, outsOf, Alike}
+use Rattle.claims.specs.Newer.{strike, strikeMap, struck, listedIn, kinds, asks, reportOf, insOf, outsOf, Alike}
 
 -- the value of a key of a listed type
 find-at : (k : ℕ) (key : List ℕ) (p : Pair) (ps qs : List Pair) (t : Bool) → listed k (p .key) ≡ t → listed k key ≡ true
@@ -52,6 +52,15 @@ unfolding strike only
 listing-strike k t [] l = refl
 listing-strike k t (p ∷ ps) l = listing-at k t p ps (strike k ps) (listed k (p .key)) refl l (listing-strike k t ps l)
 
+-- so a map's answers
+pub look-strike : (k : ℕ) (key : List ℕ) → listed k key ≡ true → (ok : Bool) (l : Length) (ps : List Pair) → lookIn ok l key (shows (strike k ps)) ≡ lookIn ok l key (shows ps)
+unfolding lookIn
+look-strike k key a ok l ps = ap (λ (x : Found). pick ok (ofLengthIn l x) (refuses BadValue)) (find-strike k key ps a)
+
+pub list-strike : (k t : ℕ) → listed k (keyOf t []) ≡ true → (ps : List Pair) → listIn t (shows (strike k ps)) ≡ listIn t (shows ps)
+unfolding listIn
+list-strike k t a ps = ap shows (listing-strike k t ps a)
+
 -- the rules after a map
 pub global-strike : (g : List Pair) → globalRule (strike GLOBAL g) ≡ globalRule g
 unfolding globalRule listed typeOf keyOf within listedTypes span
@@ -80,9 +89,9 @@ in-strike m =
     let ps = m .pairs in
     rw (field-strike INPUT 0x0e ps refl, field-strike INPUT 0x0f ps refl, field-strike INPUT 0x10 ps refl, field-strike INPUT 0x11 ps refl, field-strike INPUT 0x12 ps refl)
 
-out-strike : (m : Map) → outOf ((strikeMap OUTPUT m) .pairs) ≡ outOf (m .pairs)
-unfolding outOf strikeMap listed typeOf keyOf within listedTypes span
-out-strike m = rw (field-strike OUTPUT 0x03 (m .pairs) refl, field-strike OUTPUT 0x04 (m .pairs) refl)
+pub out-strike : (ps : List Pair) → outOf (strike OUTPUT ps) ≡ outOf ps
+unfolding outOf listed typeOf keyOf within listedTypes span
+out-strike ps = rw (field-strike OUTPUT 0x03 ps refl, field-strike OUTPUT 0x04 ps refl)
 
 -- a function that doesn't tell images from what they are of
 map-same : {A B : Type 0} (g : A → B) (f : A → A) → ((x : A) → g (f x) ≡ g x) → (xs : List A) → map g (map f xs) ≡ map g xs
@@ -94,8 +103,8 @@ unfolding insOf struck
 ins-strike c = map-same (λ (m : Map). inOf (m .pairs)) (strikeMap INPUT) in-strike (c .ins)
 
 outs-strike : (c : Content) → outsOf (struck c) ≡ outsOf c
-unfolding outsOf struck
-outs-strike c = map-same (λ (m : Map). outOf (m .pairs)) (strikeMap OUTPUT) out-strike (c .outs)
+unfolding outsOf struck strikeMap
+outs-strike c = map-same (λ (m : Map). outOf (m .pairs)) (strikeMap OUTPUT) (λ m. out-strike (m .pairs)) (c .outs)
 
 kinds-strike : (c : Content) → kinds (struck c) ≡ kinds c
 unfolding kinds struck
@@ -111,6 +120,35 @@ bare-strike : (k : ℕ) (ps : List Pair) → map bare (strike k ps) ≡ strike k
 unfolding strike only bare
 bare-strike k [] = refl
 bare-strike k (p ∷ ps) = bare-keep (listed k (p .key)) p (strike k ps) ∙ ap (keepIf (listed k (p .key)) (bare p)) (bare-strike k ps)
+
+-- what is struck has nothing left to strike
+keep-again : (k : ℕ) (t : Bool) (p : Pair) (qs : List Pair) → listed k (p .key) ≡ t → strike k qs ≡ qs → strike k (keepIf t p qs) ≡ keepIf t p qs
+unfolding strike only
+keep-again k true p qs e h = rw e (ap (λ (l : List Pair). p ∷ l) h)
+keep-again k false p qs e h = h
+
+strike-again : (k : ℕ) (ps : List Pair) → strike k (strike k ps) ≡ strike k ps
+unfolding strike only
+strike-again k [] = refl
+strike-again k (p ∷ ps) = keep-again k (listed k (p .key)) p (strike k ps) refl (strike-again k ps)
+
+struck-again : (c : Content) → struck (struck c) ≡ struck c
+unfolding struck strikeMap
+struck-again c = λ i. record {
+  global = again GLOBAL (c .global) i;
+  ins = map-same (strikeMap INPUT) (strikeMap INPUT) (again INPUT) (c .ins) i;
+  outs = map-same (strikeMap OUTPUT) (strikeMap OUTPUT) (again OUTPUT) (c .outs) i;
+}
+  where
+    again : (k : ℕ) (m : Map) → strikeMap k (strikeMap k m) ≡ strikeMap k m
+    again k m = λ i. record { pairs = strike-again k (m .pairs) i; end = m .end }
+
+-- maps of one kind, struck, show what is listed
+pub view-struck : (k : ℕ) (ms : List Map) (i : ℕ) → viewBy i (map (strikeMap k) ms) ≡ listedIn k (viewBy i ms)
+unfolding viewBy strikeMap listedIn
+view-struck k [] i = refl
+view-struck k (x ∷ ms) zero = ap shows (bare-strike k (x .pairs))
+view-struck k (x ∷ ms) (suc i) = view-struck k ms i
 
 -- by a map's number: what a map answers by its listed pairs alone
 module _ {A : Type 0} (g : View → A) (key : List ℕ) (h : (k : ℕ) (ps : List Pair) → listed k key ≡ true → g (shows (strike k ps)) ≡ g (shows ps)) where
@@ -136,11 +174,12 @@ module _ {A : Type 0} (g : View → A) (key : List ℕ) (h : (k : ℕ) (ps : Lis
   view-strike c (suc m) l = maps-strike (c .ins) (c .outs) m l
 
 -- alike by what lock, scripts and transaction are made of
-pub alike-of : (c d : Content) → reportOf c ≡ reportOf d → kinds c ≡ kinds d
+pub alike-of : (c d : Content) → struck c ≡ struck d → reportOf c ≡ reportOf d → kinds c ≡ kinds d
     → ((m : ℕ) (key : List ℕ) → asks m (kinds c) key ≡ true → (ok : Bool) (l : Length) → lookIn ok l key (viewBy m (mapsOf c)) ≡ lookIn ok l key (viewBy m (mapsOf d)))
     → ((m t : ℕ) → asks m (kinds c) (keyOf t []) ≡ true → listIn t (viewBy m (mapsOf c)) ≡ listIn t (viewBy m (mapsOf d)))
     → insOf c ≡ insOf d → outsOf c ≡ outsOf d → Alike c d
-alike-of c d r k v l i o = record {
+alike-of c d e r k v l i o = record {
+  same-listed = e;
   same-report = r;
   same-kinds = k;
   same-lookups = v;
@@ -154,9 +193,8 @@ alike-of c d r k v l i o = record {
 
 -- a content answers as its listed pairs alone
 pub alike-struck : (c : Content) → Alike (struck c) c
-unfolding lookIn listIn
 alike-struck c =
-    alike-of (struck c) c (report-strike c) (kinds-strike c)
-    (λ m key l ok n. view-strike (lookIn ok n key) key (λ k ps a. ap (λ (x : Found). pick ok (ofLengthIn n x) (refuses BadValue)) (find-strike k key ps a)) c m (ap (λ (ks : List ℕ). asks m ks key) (sym (kinds-strike c)) ∙ l))
-    (λ m t l. view-strike (listIn t) (keyOf t []) (λ k ps a. ap shows (listing-strike k t ps a)) c m (ap (λ (ks : List ℕ). asks m ks (keyOf t [])) (sym (kinds-strike c)) ∙ l))
+    alike-of (struck c) c (struck-again c) (report-strike c) (kinds-strike c)
+    (λ m key l ok n. view-strike (lookIn ok n key) key (λ k ps a. look-strike k key a ok n ps) c m (ap (λ (ks : List ℕ). asks m ks key) (sym (kinds-strike c)) ∙ l))
+    (λ m t l. view-strike (listIn t) (keyOf t []) (λ k ps a. list-strike k t a ps) c m (ap (λ (ks : List ℕ). asks m ks (keyOf t [])) (sym (kinds-strike c)) ∙ l))
     (ins-strike c) (outs-strike c)

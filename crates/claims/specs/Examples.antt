@@ -1,11 +1,14 @@
 -- File F with pairs of unlisted types added, computed: the same transaction, and struck it is F byte for byte.
 use Prim.Native.Nat.{ℕ}
 use mathlib.Core.Path.{_≡_, refl}
+use mathlib.Core.Bool.{true, false}
 use mathlib.Core.List.{List, [], _∷_, _++_}
 use Rattle.format.specs.Rules.{span, within, listedTypes, listed}
 use Rattle.format.specs.Content.{pairBytes, pairsBytes, mapBytes, mapsBytes, bytes}
 use Rattle.format.specs.Reading.{Verdict, accepted, refused, outcome, reading}
-use Rattle.format.specs.Examples.{globals, txid, outputIndex, end, amount, script, fileF, accepts, told, txF, computes}
+use Rattle.format.specs.Told.{told, none, nat, flag, toldLeft}
+use Rattle.format.specs.ExampleFiles.{globals, txid, outputIndex, end, amount, script, fileF, txF}
+use Rattle.format.specs.Computed.{goes, answers, acceptedWith, computes}
 use Rattle.claims.specs.Newer.{strike, strikeMap, struck}
 
 -- F with global 50 (its value's length spelled fd0200), input 19 with data 07 (its key's length spelled fd0200) and output 7f
@@ -19,10 +22,12 @@ unfoldable pub struckBytes : Verdict → List ℕ
 struckBytes (refused e) = []
 struckBytes (accepted c) = bytes (struck c)
 
-pub same-tx : told fileG ≡ accepts 11 3 (txF (0 ∷ 0 ∷ 0 ∷ 0 ∷ []))
+-- 11 pairs, and F's transaction
+pub same-tx : answers fileG ≡ goes (acceptedWith none none 1 1 11 3) (toldLeft (told 0 (nat 61 ∷ flag false ∷ flag true ∷ [])) (txF (0 ∷ 0 ∷ 0 ∷ 0 ∷ []) ++ (0 ∷ 0 ∷ 0 ∷ [])))
 unfolding computes
 same-tx = refl
 
+-- struck it is F
 pub struck-is : struckBytes (reading fileG) ≡ fileF
 unfolding computes outcome reading pairBytes pairsBytes mapBytes mapsBytes bytes span within listedTypes listed strike strikeMap struck struckBytes
 struck-is = refl

@@ -2,5 +2,5 @@ pub mod Answers
 pub mod Asked
 pub mod Newer
 pub mod Calls
+pub mod Meaning
 pub mod Examples
-pub mod Outcomes

@@ -7,6 +7,7 @@ use Rattle.format.specs.Tests.{only}
 use Rattle.format.specs.Keys.{keyOf}
 use Rattle.format.specs.Rules.{GLOBAL, INPUT, OUTPUT, listed}
 use Rattle.format.specs.Content.{Pair, Map, Content, mapsOf, psbtOf}
+use Rattle.format.specs.Tables.{View, hides, shows}
 use Rattle.format.specs.Lookups.{Length}
 use Rattle.format.specs.Locks.{In, inOf, decide}
 use Rattle.format.specs.Scripts.{Out, outOf, Given, setGiven}
@@ -43,6 +44,11 @@ pub record AddedFile (c d : Content) : Type 0 where
 unfoldable pub strike : ℕ → List Pair → List Pair
 strike k ps = only (λ p. listed k (p .key)) ps
 
+-- what a map of kind k shows of listed types
+unfoldable pub listedIn : ℕ → View → View
+listedIn k (hides e) = hides e
+listedIn k (shows ps) = shows (strike k ps)
+
 -- a map with these pairs alone
 unfoldable pub strikeMap : ℕ → Map → Map
 strikeMap k m = record { pairs = strike k (m .pairs); end = m .end }
@@ -73,8 +79,9 @@ insOf c = map (λ (m : Map). inOf (m .pairs)) (c .ins)
 unfoldable pub outsOf : Content → List Out
 outsOf c = map (λ (m : Map). outOf (m .pairs)) (c .outs)
 
--- whoever knows the listed types alone is answered the same of both: report, maps, lookups, listings, lock, scripts and transaction
+-- whoever knows the listed types alone is answered the same of both: listed pairs, report, maps, lookups, listings, lock, scripts and transaction
 pub record Alike (c d : Content) : Type 0 where
+  pub same-listed : struck c ≡ struck d
   pub same-report : reportOf c ≡ reportOf d
   pub same-kinds : kinds c ≡ kinds d
   pub same-lookups : (m : ℕ) (key : List ℕ) → asks m (kinds c) key ≡ true → (ok : Bool) (l : Length) → lookIn ok l key (viewBy m (mapsOf c)) ≡ lookIn ok l key (viewBy m (mapsOf d))

@@ -1,13 +1,14 @@
 -- The dump of an accepted file is its content's text, and of a refused one its number, where the tables have the room.
 use mathlib.Core.Path.{_≡_, refl, sym, _∙_, ap, ap₂}
 use mathlib.Core.List.{List, [], _∷_, _++_, map}
-use Prim.Native.Nat.{ℕ, suc, _+_, _≤_}
+use Prim.Native.Nat.{ℕ, suc, _+_, _*_, _≤_}
 use native.Mathlib.Nat.{add-zero, zero-add}
 use native.Mathlib.Omega.{arith}
 use borrow.Author.Tests.{le-ltb}
 use lib.ListN.{length, length-replicate, length-map}
 use Rattle.format.specs.Content.{Pair, Map, Content, mapsOf, psbtOf}
 use Rattle.format.specs.Reading.{accepted, refused, reading, events}
+use Rattle.format.specs.Entries.{pairWords, mapWords}
 use Rattle.format.specs.Tables.{View, shows}
 use Rattle.format.specs.Parse.{ParseOut, out, parsed}
 use Rattle.format.specs.Transaction.{unsignedTx}
@@ -19,8 +20,9 @@ use Rattle.laws.proofs.Files.{one-plus-counts}
 use Rattle.laws.proofs.Parsed.{parse-is}
 use Rattle.laws.proofs.Rooms.{room-refuses}
 use Rattle.laws.proofs.Shown.{every-call}
+use Rattle.text.specs.Limits.{longest, mostPairs, mostMaps}
 use Rattle.dump_text.specs.Lines.{refusedLine, headLine, mapLine, pairLine, pairsText, mapText, mapThen, mapsText}
-use Rattle.dump_text.specs.Dump.{zeros, fresh, txLine, acceptedText, parsedText, dumpIn, dump}
+use Rattle.dump_text.specs.Dump.{zeros, pairRoom, mapRoom, txRoom, fresh, txLine, acceptedText, parsedText, dumpIn, dump}
 use Rattle.dump_text.specs.Contents.{mapLines, contentText}
 
 -- a pair's line doesn't ask how its lengths are spelled
@@ -65,7 +67,8 @@ zeros-long : (n : ℕ) → length (zeros n) ≡ n
 unfolding zeros
 zeros-long n = length-replicate n 0
 
-pub dump-is : (f : List ℕ) (c : Content) → reading f ≡ accepted c → length f ≤ 65536 → pairsIn (mapsOf c) ≤ 1024 → length (mapsOf c) ≤ 256 → dump f ≡ contentText c (zeros 65536)
+pub dump-is : (f : List ℕ) (c : Content) → reading f ≡ accepted c → length f ≤ longest → pairsIn (mapsOf c) ≤ mostPairs → length (mapsOf c) ≤ mostMaps → dump f ≡ contentText c txRoom
 unfolding dump
 dump-is f c e h p m =
-    rw (le-ltb 65536 (length f) h) (dump-accepted f c (zeros 4096) (zeros 512) (zeros 65536) e (record { pairs = omega (arith, zeros-long 4096); maps = omega (arith, zeros-long 512) }))
+    rw (le-ltb longest (length f) h)
+    (dump-accepted f c pairRoom mapRoom txRoom e (record { pairs = omega (arith, zeros-long (mostPairs * pairWords)); maps = omega (arith, zeros-long (mostMaps * mapWords)) }))

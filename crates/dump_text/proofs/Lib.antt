@@ -2,3 +2,4 @@ pub mod Pieces
 pub mod Walks
 pub mod Wholes
 pub mod Contents
+pub mod Sizes

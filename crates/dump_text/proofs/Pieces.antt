@@ -22,9 +22,10 @@ use Rattle.format.specs.declared.UnsignedTx.{UnsignedTx}
 use Rattle.format.specs.declared.UnsignedTx.the-variants.{Refused, Written}
 use Rattle.wire.proofs.Sizes.{part-rest}
 use Rattle.text.specs.Spots.{Spot, lay}
+use Rattle.text.specs.Say.{say, newline}
 use Rattle.text.specs.Spelled.{digit, hexByte, hexOrDash, decimal, signedDecimal}
 use Rattle.text.proofs.Lays.{lay-then}
-use Rattle.dump_text.specs.Lines.{sayRefused, sayPsbt, sayInputs, sayOutputs, sayMap, sayPairs, sayUnsigned, refusedLine, versionText, countsText, headLine, mapLine, keyText, pairText, pairLine, unsignedText, unsignedLine, space, newline}
+use Rattle.dump_text.specs.Lines.{sayRefused, sayPsbt, sayInputs, sayOutputs, sayMap, sayPairs, sayUnsigned, refusedLine, versionText, countsText, headLine, mapLine, keyText, pairText, pairLine, unsignedText, unsignedLine, space}
 
 -- a refusal, the head, a map's line
 pub refused-line : (s t₁ t₂ t₃ : Spot) (e : PsbtError) (n : ℕ) → t₁ ≡ lay s sayRefused → n ≡ numberOf e → t₂ ≡ lay t₁ (decimal n) → t₃ ≡ lay t₂ newline → t₃ ≡ lay s (refusedLine e)
@@ -50,7 +51,7 @@ unfolding mapLine
 map-line s t₁ t₂ t₃ t₄ t₅ m n a b c d e = lay-then _ _ _ _ _ a (lay-then _ _ _ _ _ b (lay-then _ _ _ _ _ c (lay-then _ _ _ _ _ d e)))
 
 -- a key without a byte, and one with
-pub key-none : (s t : Spot) (k : List ℕ) → length k ≡ 0 → t ≡ lay s (48 ∷ 48 ∷ 32 ∷ 45 ∷ []) → t ≡ lay s (keyText k)
+pub key-none : (s t : Spot) (k : List ℕ) → length k ≡ 0 → t ≡ lay s (say "00 -") → t ≡ lay s (keyText k)
 unfolding keyText typeOf dataOf hexByte digit hexOrDash
 key-none s t [] h e = e
 key-none s t (x ∷ k) h e = absurd (omega arith)

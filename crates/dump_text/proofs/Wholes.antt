@@ -16,9 +16,10 @@ use Rattle.format.specs.declared.Parsed.the-variants.{Accepted, Refused}
 use Rattle.format.specs.declared.UnsignedTx.{UnsignedTx}
 use Rattle.format.proofs.Told.{parse-out-one, tx-out-one}
 use Rattle.text.specs.Spots.{Spot, lay}
+use Rattle.text.specs.Limits.{longest}
 use Rattle.text.proofs.Lays.{lay-then}
 use Rattle.dump_text.specs.Lines.{refusedLine, headLine, mapsText, unsignedLine}
-use Rattle.dump_text.specs.Dump.{zeros, fresh, txLine, acceptedText, parsedText, dumpIn, dump}
+use Rattle.dump_text.specs.Dump.{zeros, pairRoom, mapRoom, txRoom, fresh, txLine, acceptedText, parsedText, dumpIn, dump}
 
 -- the head, the maps, the last line
 pub accepted-text : (s t₁ t₂ t₃ : Spot) (v : ℕ → View) (x : Psbt) (B B′ : List ℕ) (a : UnsignedTx)
@@ -51,12 +52,12 @@ room-is n = refl
 
 -- by the file's length
 module _ (s t : Spot) (f : List ℕ) where
-  pub dump-long : 65536 < length f → t ≡ lay s (refusedLine TooLong) → t ≡ lay s (dump f)
+  pub dump-long : longest < length f → t ≡ lay s (refusedLine TooLong) → t ≡ lay s (dump f)
   unfolding dump
-  dump-long h e = e ∙ sym (rw (lt-ltb 65536 (length f) h))
+  dump-long h e = e ∙ sym (rw (lt-ltb longest (length f) h))
 
-  pub dump-short : length f ≤ 65536 → (P M B : List ℕ) → P ≡ zeros 4096 → M ≡ zeros 512 → B ≡ zeros 65536 → t ≡ lay s (dumpIn P M B f) → t ≡ lay s (dump f)
+  pub dump-short : length f ≤ longest → (P M B : List ℕ) → P ≡ pairRoom → M ≡ mapRoom → B ≡ txRoom → t ≡ lay s (dumpIn P M B f) → t ≡ lay s (dump f)
   unfolding dump
-  dump-short h P M B p m b e = e ∙ rw (p, m, b) (sym (rw (le-ltb 65536 (length f) h)))
+  dump-short h P M B p m b e = e ∙ rw (p, m, b) (sym (rw (le-ltb longest (length f) h)))
 
 pub ruleset by-length = (dump-long, dump-short)

@@ -11,69 +11,66 @@ use Rattle.format.specs.declared.PsbtError.{PsbtError}
 use Rattle.format.specs.declared.Psbt.{Psbt}
 use Rattle.format.specs.declared.UnsignedTx.{UnsignedTx}
 use Rattle.format.specs.declared.UnsignedTx.the-variants.{Refused, Written}
+use Rattle.text.specs.Say.{say, newline}
 use Rattle.text.specs.Spelled.{hexByte, hexOrDash, decimal, signedDecimal}
 
--- the end of a line
-abbrev pub newline : List ℕ
-newline = 10 ∷ []
-
--- a space
+-- between words
 abbrev pub space : List ℕ
-space = 32 ∷ []
+space = say " "
 
--- `refused `
+-- before a refusal's number
 abbrev pub sayRefused : List ℕ
-sayRefused = 114 ∷ 101 ∷ 102 ∷ 117 ∷ 115 ∷ 101 ∷ 100 ∷ 32 ∷ []
+sayRefused = say "refused "
 
--- `psbt 2 tx `
+-- before the transaction's version: an accepted file has version 2
 abbrev pub sayPsbt : List ℕ
-sayPsbt = 112 ∷ 115 ∷ 98 ∷ 116 ∷ 32 ∷ 50 ∷ 32 ∷ 116 ∷ 120 ∷ 32 ∷ []
+sayPsbt = say "psbt 2 tx "
 
--- ` inputs `
+-- before the number of inputs
 abbrev pub sayInputs : List ℕ
-sayInputs = 32 ∷ 105 ∷ 110 ∷ 112 ∷ 117 ∷ 116 ∷ 115 ∷ 32 ∷ []
+sayInputs = say " inputs "
 
--- ` outputs `
+-- before the number of outputs
 abbrev pub sayOutputs : List ℕ
-sayOutputs = 32 ∷ 111 ∷ 117 ∷ 116 ∷ 112 ∷ 117 ∷ 116 ∷ 115 ∷ 32 ∷ []
+sayOutputs = say " outputs "
 
--- `map `
+-- before a map's number
 abbrev pub sayMap : List ℕ
-sayMap = 109 ∷ 97 ∷ 112 ∷ 32 ∷ []
+sayMap = say "map "
 
--- ` pairs `
+-- before the number of its pairs
 abbrev pub sayPairs : List ℕ
-sayPairs = 32 ∷ 112 ∷ 97 ∷ 105 ∷ 114 ∷ 115 ∷ 32 ∷ []
+sayPairs = say " pairs "
 
--- `unsigned `
+-- before the transaction
 abbrev pub sayUnsigned : List ℕ
-sayUnsigned = 117 ∷ 110 ∷ 115 ∷ 105 ∷ 103 ∷ 110 ∷ 101 ∷ 100 ∷ 32 ∷ []
+sayUnsigned = say "unsigned "
 
--- `refused N`
+-- the line of a refused file
 unfoldable pub refusedLine : PsbtError → List ℕ
 refusedLine e = sayRefused ++ (decimal (numberOf e) ++ newline)
 
--- `psbt 2 tx V`
+-- both versions
 unfoldable pub versionText : ℤ → List ℕ
 versionText v = sayPsbt ++ signedDecimal v
 
--- ` inputs N outputs M`
+-- both counts
 unfoldable pub countsText : ℕ → ℕ → List ℕ
 countsText n m = sayInputs ++ (decimal n ++ (sayOutputs ++ (decimal m ++ newline)))
 
--- `psbt 2 tx V inputs N outputs M`
+-- the first line: what was reported
 unfoldable pub headLine : Psbt → List ℕ
 headLine s = versionText (s .«tx_version») ++ countsText (s .inputs) (s .outputs)
 
--- `map M pairs N`
+-- the line of map number m with n pairs
 unfoldable pub mapLine : ℕ → ℕ → List ℕ
 mapLine m n = sayMap ++ (decimal m ++ (sayPairs ++ (decimal n ++ newline)))
 
--- a key: its type, and its data or `-`
+-- a key: its type, and its data or a dash
 unfoldable pub keyText : List ℕ → List ℕ
 keyText k = hexByte (typeOf k) ++ (space ++ hexOrDash (dataOf k))
 
--- a key, and a value or `-`
+-- a key, and a value or a dash
 unfoldable pub pairText : List ℕ → List ℕ → List ℕ
 pairText k v = keyText k ++ (space ++ (hexOrDash v ++ newline))
 
@@ -100,7 +97,7 @@ unfoldable pub mapsText : (ℕ → View) → ℕ → ℕ → List ℕ
 mapsText v m zero = []
 mapsText v m (suc n) = mapThen m (v m) (mapsText v (m + 1) n)
 
--- the transaction's bytes at the buffer's front, or `refused N`
+-- the transaction's bytes at the buffer's front, or a refusal's line
 unfoldable pub unsignedText : UnsignedTx → List ℕ → List ℕ
 unsignedText (Refused e) B = refusedLine e
 unsignedText (Written n t) B = hexOrDash (take n B) ++ newline

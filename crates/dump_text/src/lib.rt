@@ -23,14 +23,14 @@ use text::put_signed;
 ghost use mathlib.Core.Path.{_≡_};
 ghost use mathlib.Core.List.{map};
 ghost use Prim.Native.Nat.{_+_, _≤_};
-ghost use lib.ListN.{length};
+ghost use lib.ListN.{length, take};
 ghost use Rattle.format.specs.Entries.{shown};
 ghost use Rattle.format.specs.Tables.{view, mapsReported};
 ghost use Rattle.entries.specs.Words.{pairCount};
 ghost use Rattle.fitness.specs.Fits.{entriesOf};
 ghost use Rattle.text.specs.Spots.{spot, lay};
 ghost use Rattle.dump_text.specs.Lines.{refusedLine, versionText, countsText, headLine, mapLine, keyText, pairText, pairLine, pairsText, mapText, mapsText, unsignedLine};
-ghost use Rattle.dump_text.specs.Dump.{zeros, acceptedText, dumpIn, dump};
+ghost use Rattle.dump_text.specs.Dump.{pairRoom, mapRoom, txRoom, acceptedText, dumpIn, dump};
 
 // The longest file that is dumped, in bytes.
 const MOST: usize = 65536;
@@ -231,7 +231,7 @@ fn put_parsed(
 
 // Room for 1,024 pairs.
 pub fn pair_room() -> [u32; 4096]
-    ensures { λ r. ⌜ r ≡ zeros 4096 ⌝ }
+    ensures { λ r. ⌜ r ≡ pairRoom ⌝ }
     ensures { λ r. ⌜ 4096 ≡ length r ⌝ }
 {
     [0; 4096]
@@ -239,7 +239,7 @@ pub fn pair_room() -> [u32; 4096]
 
 // Room for 256 maps.
 pub fn map_room() -> [u32; 512]
-    ensures { λ r. ⌜ r ≡ zeros 512 ⌝ }
+    ensures { λ r. ⌜ r ≡ mapRoom ⌝ }
     ensures { λ r. ⌜ 512 ≡ length r ⌝ }
 {
     [0; 512]
@@ -247,7 +247,7 @@ pub fn map_room() -> [u32; 512]
 
 // Room for the transaction.
 pub fn tx_room() -> [u8; 65536]
-    ensures { λ r. ⌜ r ≡ zeros 65536 ⌝ }
+    ensures { λ r. ⌜ r ≡ txRoom ⌝ }
     ensures { λ r. ⌜ 65536 ≡ length r ⌝ }
 {
     [0; 65536]
@@ -273,21 +273,20 @@ pub fn file_room() -> [u8; 65537]
     [0; 65537]
 }
 
-// Room for every dump. A file's bytes take at most two digits each (131,072), a pair's line five more at most
-// (5,120 for 1,024 pairs), a map's line 19 (4,864 for 256 maps), the head 46, the transaction two digits a byte
-// and ten more (131,082): 272,184 in all.
+// Room for every dump: none is longer (`dump-fits`).
 fn text_room() -> [u8; 272384]
     ensures { λ r. ⌜ 272384 ≡ length r ⌝ }
 {
     [0; 272384]
 }
 
-// The text, in one piece.
-pub fn write_text(fd: i32, out: &[u8], to: usize) -> bool {
-    if out.len() < to {
-        return false;
-    }
-    io::write_all(fd, &out[..to])
+// Puts the dump of a file at the front of a room for every dump, where it stands whole, and answers its end.
+fn put_whole(out: &mut [u8], file: &[u8]) -> usize
+    requires { ⌜ 272384 ≤ length (now out) ⌝ }
+    ensures { λ r. ⌜ r ≤ length (now (out .exit)) ⌝ }
+    ensures { λ r. ⌜ take r (now (out .exit)) ≡ dump (now (file .entry)) ⌝ }
+{
+    put_dump(out, 0, file)
 }
 
 // Reads a file from one descriptor, until it ends or is too long, and writes its dump to another.
@@ -295,6 +294,6 @@ pub fn dump_input(from: i32, to: i32) -> bool {
     let mut file = file_room();
     let mut out = text_room();
     let got = io::read_full(from, &mut file);
-    let end = put_dump(&mut out, 0, &file[..got]);
-    write_text(to, &out, end)
+    let end = put_whole(&mut out, &file[..got]);
+    io::write_all(to, &out[..end])
 }

@@ -9,6 +9,7 @@ use Rattle.format.specs.Refusals.{numberOf}
 use Rattle.format.specs.Numbers.{unsigned}
 use Rattle.format.specs.Told.{flag, maybeValue, toldLooked, toldNumbered, toldListing, toldNth, toldUtxo, toldLock, toldScript, toldSet, toldTx, toldParsed}
 use Rattle.format.specs.declared.PsbtError.{PsbtError}
+use Rattle.format.specs.declared.PsbtError.the-variants.{BadIndex}
 use Rattle.format.specs.declared.PairEntry.{PairEntry}
 use Rattle.format.specs.declared.State.{State}
 use Rattle.format.specs.declared.Psbt.{Psbt}
@@ -32,7 +33,14 @@ use Rattle.format.specs.declared.UnsignedTx.{UnsignedTx}
 use Rattle.format.specs.declared.UnsignedTx.the-variants as X
 use Rattle.format.specs.declared.Parsed.{Parsed}
 use Rattle.format.specs.declared.Parsed.the-variants as P
-use Rattle.export_words.specs.Words.{Export, word, wordsOf, answeredWith, answered}
+use Rattle.export_words.specs.Words.{Export, word, wordsOf, answeredWith, answered, noReport}
+
+-- where the words are no report
+pub no-report : (A : List ℕ) (x : Export) (n : ℕ) → n ≡ numberOf BadIndex → x ≡ answeredWith A n (0 ∷ 0 ∷ 0 ∷ 0 ∷ 0 ∷ 0 ∷ 0 ∷ 0 ∷ []) → x ≡ answered A noReport
+unfolding answered noReport wordsOf
+no-report A x n k h = h ∙ rw k
+
+pub ruleset no-reports = (no-report)
 
 -- of Looked
 module _ (A : List ℕ) (o : Looked) (x : Export) where
@@ -125,19 +133,19 @@ module _ (A : List ℕ) (o : Lock) (x : Export) where
   lock-fallback n q h = h ∙ sym (rw q)
 
   pub lock-both-kinds : (h₁ h₂ : ℕ) → o ≡ D.BothKinds h₁ h₂ → x ≡ answeredWith A 7 (3 ∷ 1 ∷ h₁ ∷ h₂ ∷ 0 ∷ 0 ∷ 0 ∷ 0 ∷ []) → x ≡ answered A (toldLock o)
-  unfolding answered toldLock wordsOf word unsigned
+  unfolding answered toldLock wordsOf word unsigned numberOf
   lock-both-kinds h₁ h₂ q h = h ∙ sym (rw q)
 
   pub lock-height-too-great : (n i : ℕ) → o ≡ D.HeightTooGreat n i → x ≡ answeredWith A 7 (3 ∷ 2 ∷ n ∷ i ∷ 0 ∷ 0 ∷ 0 ∷ 0 ∷ []) → x ≡ answered A (toldLock o)
-  unfolding answered toldLock wordsOf word unsigned
+  unfolding answered toldLock wordsOf word unsigned numberOf
   lock-height-too-great n i q h = h ∙ sym (rw q)
 
   pub lock-time-too-small : (n i : ℕ) → o ≡ D.TimeTooSmall n i → x ≡ answeredWith A 7 (3 ∷ 3 ∷ n ∷ i ∷ 0 ∷ 0 ∷ 0 ∷ 0 ∷ []) → x ≡ answered A (toldLock o)
-  unfolding answered toldLock wordsOf word unsigned
+  unfolding answered toldLock wordsOf word unsigned numberOf
   lock-time-too-small n i q h = h ∙ sym (rw q)
 
   pub lock-malformed : (i : ℕ) → o ≡ D.Malformed i → x ≡ answeredWith A 7 (2 ∷ 4 ∷ i ∷ 0 ∷ 0 ∷ 0 ∷ 0 ∷ 0 ∷ []) → x ≡ answered A (toldLock o)
-  unfolding answered toldLock wordsOf word unsigned
+  unfolding answered toldLock wordsOf word unsigned numberOf
   lock-malformed i q h = h ∙ sym (rw q)
 
 pub ruleset locks = (lock-refused, lock-height, lock-time, lock-fallback, lock-both-kinds, lock-height-too-great, lock-time-too-small, lock-malformed)

@@ -4,15 +4,17 @@ use mathlib.Core.List.{List}
 use Prim.Native.Nat.{ℕ, _+_, _%_, _≤_, _<_}
 use native.Mathlib.Omega.{arith}
 use borrow.Author.Tests.{eq-eqb, ne-eqb, le-leb, lt-leb}
+use lib.Dec.{eqb}
 use lib.IntN.{ℤ}
 use lib.ListN.{length, getD, List·getD-eq-default}
 use lib.Seq.{sets-eq}
 use Rattle.format.specs.Numbers.{signed, unsigned}
+use Rattle.format.specs.Refusals.{numberOf}
 use Rattle.format.specs.Told.{maybeValue}
 use Rattle.format.specs.declared.Maybe.{Maybe}
 use Rattle.format.specs.declared.Maybe.the-variants.{Absent, Present}
 use Rattle.writer.specs.Writes.{wrote}
-use Rattle.export_words.specs.Words.{word, exported, answeredWith, noValue, maybeOf, psbtIn}
+use Rattle.export_words.specs.Words.{word, exported, answeredWith, noValue, maybeOf, psbtIn, isReport}
 
 -- a word past the end is 0
 pub no-word : (R : List ℕ) (k : ℕ) → length R ≤ k → 0 ≡ getD R k 0
@@ -45,7 +47,7 @@ pub ruleset maybe-words = (absent-word, present-word)
 -- the slice is short; or has the words at its front
 module _ (A : List ℕ) (n : ℕ) (ws : List ℕ) where
   pub too-short : length A < 8 → exported 25 A ≡ answeredWith A n ws
-  unfolding answeredWith
+  unfolding answeredWith numberOf
   too-short h = rw (lt-leb 8 (length A) h)
 
   module _ (h : 8 ≤ length A) (l : length ws ≡ 8) where
@@ -65,3 +67,10 @@ unfolding psbtIn
 report-is R v a b i o z m n ev ez ea em eb en ei eo = rw (ez, ev, em, ea, en, eb, ei, eo)
 
 pub ruleset reports = (report-is)
+
+-- whether words are a report, by the first of them
+pub report-told : (R : List ℕ) (n : ℕ) → n ≡ getD R 0 0 → eqb n 7 ≡ isReport R
+unfolding isReport
+report-told R n e = rw e
+
+pub ruleset reported = (report-told)

@@ -1,12 +1,14 @@
 -- Answers as words in a lent slice, for callers from other languages.
 use Prim.Native.Nat.{ℕ, _^_, _-_, _%_}
-use mathlib.Core.Bool.{not}
-use mathlib.Core.List.{List, _∷_, _++_, map}
+use mathlib.Core.Bool.{Bool, not}
+use mathlib.Core.List.{List, [], _∷_, _++_, map}
 use lib.Dec.{leb, eqb}
 use lib.ListN.{length, take, drop, replicate, getD}
 use Rattle.format.specs.Tests.{pick}
 use Rattle.format.specs.Numbers.{signed, unsigned}
+use Rattle.format.specs.Refusals.{numberOf}
 use Rattle.format.specs.Told.{Value, none, int, flag, Told, told, ToldParse, toldWith, ToldOut, toldLeft}
+use Rattle.format.specs.declared.PsbtError.the-variants.{BadIndex, NoRoom}
 use Rattle.format.specs.declared.Maybe.{Maybe}
 use Rattle.format.specs.declared.Maybe.the-variants.{Absent, Present}
 use Rattle.format.specs.declared.Psbt.{Psbt}
@@ -36,11 +38,15 @@ pub data Export : Type 0 where
 
 -- a number with its words at the front of the slice; 25 where the slice is short, which then stays
 unfoldable pub answeredWith : List ℕ → ℕ → List ℕ → Export
-answeredWith A n ws = pick (leb answerWords (length A)) (exported n (ws ++ drop answerWords A)) (exported 25 A)
+answeredWith A n ws = pick (leb answerWords (length A)) (exported n (ws ++ drop answerWords A)) (exported (numberOf NoRoom) A)
 
 -- what is told, in the slice
 unfoldable pub answered : List ℕ → Told → Export
 answered A (told n vs) = answeredWith A n (wordsOf vs)
+
+-- the words of what is told
+unfoldable pub wordsTold : Told → List ℕ
+wordsTold (told n vs) = wordsOf vs
 
 -- a number that may be absent, by its word
 unfoldable pub maybeOf : ℕ → Maybe
@@ -57,17 +63,29 @@ psbtIn R =
       outputs = getD R 5 0;
     }
 
+-- how many values an accepted parse tells
+abbrev pub reportValues : ℕ
+reportValues = 7
+
+-- words are a report, those of an accepted parse: the first counts its values
+unfoldable pub isReport : List ℕ → Bool
+isReport R = eqb (getD R 0 0) reportValues
+
+-- what every call that takes a report tells where the words are none, before all else: 24
+unfoldable pub noReport : Told
+noReport = told (numberOf BadIndex) []
+
 -- a state by two numbers, where all but 0 means yes
 unfoldable pub stateOf : ℕ → ℕ → State
 stateOf set written = record { set = not (eqb set 0); written = not (eqb written 0) }
 
--- what is told of what words report, in the slice
+-- what is told of what words report, in the slice; 24 where they are no report
 unfoldable pub asked : List ℕ → List ℕ → (Psbt → Told) → Export
-asked R A k = answered A (k (psbtIn R))
+asked R A k = answered A (pick (isReport R) (k (psbtIn R)) noReport)
 
 -- the same of a call that takes the state too, by two numbers
 unfoldable pub askedIn : ℕ → ℕ → List ℕ → List ℕ → (State → Psbt → Told) → Export
-askedIn set written R A k = answered A (k (stateOf set written) (psbtIn R))
+askedIn set written R A k = asked R A (k (stateOf set written))
 
 -- the slice, and lent memory: two tables; one buffer
 pub data ExportWith : Type 0 where
@@ -76,16 +94,21 @@ pub data ExportWith : Type 0 where
 pub data ExportWithBoth : Type 0 where
   leavesBoth : Export → List ℕ → List ℕ → ExportWithBoth
 
--- a parse: with a slice that is short both tables stay as they are
+-- a parse's answer in the slice, and both tables
 unfoldable pub parseLeft : List ℕ → ToldParse → ExportWithBoth
 parseLeft A (toldWith t P M) = leavesBoth (answered A t) P M
 
+-- a parse: with a slice that is short both tables stay as they are
 unfoldable pub parseExport : List ℕ → List ℕ → List ℕ → ToldParse → ExportWithBoth
-parseExport A P M t = pick (leb answerWords (length A)) (parseLeft A t) (leavesBoth (exported 25 A) P M)
+parseExport A P M t = pick (leb answerWords (length A)) (parseLeft A t) (leavesBoth (exported (numberOf NoRoom) A) P M)
 
--- a call that writes a buffer, likewise
+-- an answer in the slice, and the buffer
 unfoldable pub outLeft : List ℕ → ToldOut → ExportWith
 outLeft A (toldLeft t B) = leaves (answered A t) B
 
+-- a call that writes a buffer: with a slice that is short the buffer stays as it is; so it does with words that are no report, which is 24
 unfoldable pub outExport : ℕ → ℕ → List ℕ → List ℕ → List ℕ → (State → Psbt → ToldOut) → ExportWith
-outExport set written R A B k = pick (leb answerWords (length A)) (outLeft A (k (stateOf set written) (psbtIn R))) (leaves (exported 25 A) B)
+outExport set written R A B k =
+    pick (leb answerWords (length A))
+    (outLeft A (pick (isReport R) (k (stateOf set written) (psbtIn R)) (toldLeft noReport B)))
+    (leaves (exported (numberOf NoRoom) A) B)

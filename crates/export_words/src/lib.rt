@@ -8,6 +8,7 @@ use format::Numbered;
 use format::OutputScript;
 use format::Parsed;
 use format::Psbt;
+use format::PsbtError;
 use format::ScriptsSet;
 use format::State;
 use format::UnsignedTx;
@@ -18,7 +19,7 @@ ghost use mathlib.Core.Path.{_≡_};
 ghost use Prim.Native.Nat.{_+_, _≤_};
 ghost use lib.ListN.{length, getD};
 ghost use Rattle.format.specs.declared.Parsed.the-variants.{Accepted};
-ghost use Rattle.export_words.specs.Words.{word as Words·word, answeredWith, exported, answered, maybeOf, psbtIn, stateOf};
+ghost use Rattle.export_words.specs.Words.{word as Words·word, answeredWith, exported, answered, maybeOf, psbtIn, isReport, noReport, stateOf};
 ghost use Rattle.writer.specs.Writes.{wrote};
 
 // How many words an answer takes.
@@ -26,6 +27,12 @@ pub const ANSWER: usize = 8;
 
 // The number of a slice that is too short for an answer.
 pub const NO_ROOM: u64 = 25;
+
+// The number of a lock time that the inputs' requests forbid.
+const BAD_VALUE: u64 = 7;
+
+// How many values an accepted parse reports: its first word.
+const REPORT_VALUES: u64 = 7;
 
 // The word of a value that is absent.
 const NO_VALUE: u64 = 18446744073709551615;
@@ -83,6 +90,14 @@ pub fn psbt_of(report: &[u64]) -> Psbt
     }
 }
 
+// Whether words are those of an accepted parse.
+pub fn is_report(report: &[u64]) -> bool
+    ensures { λ r. ⌜ r ≡ isReport (now (report .entry)) ⌝ }
+{
+    word(report, 0) == REPORT_VALUES
+}
+
+// A state by two numbers.
 pub fn state_of(set: u64, written: u64) -> State
     ensures { λ r. ⌜ r ≡ stateOf set written ⌝ }
 {
@@ -107,6 +122,17 @@ fn word_of(m: Maybe) -> u64
         Maybe::Absent => NO_VALUE,
         Maybe::Present(n) => n as u64,
     }
+}
+
+// The answer of every call where the words are no report.
+pub fn put_no_report(answer: &mut [u64]) -> u64
+    ensures { λ r. ⌜ exported r (now (answer .exit)) ≡ answered (now (answer .entry)) noReport ⌝ }
+{
+    put(
+        answer,
+        PsbtError::BadIndex.number() as u64,
+        [0, 0, 0, 0, 0, 0, 0, 0],
+    )
 }
 
 // Each kind of answer: its number, and its values as words.
@@ -192,14 +218,20 @@ pub fn put_lock(answer: &mut [u64], o: Lock) -> u64
         Lock::BothKinds {
             height_input,
             time_input,
-        } => { put(answer, 7, [3, 1, height_input, time_input, 0, 0, 0, 0]) }
+        } => {
+            put(
+                answer,
+                BAD_VALUE,
+                [3, 1, height_input, time_input, 0, 0, 0, 0],
+            )
+        }
         Lock::HeightTooGreat { number, input } => {
-            put(answer, 7, [3, 2, number as u64, input, 0, 0, 0, 0])
+            put(answer, BAD_VALUE, [3, 2, number as u64, input, 0, 0, 0, 0])
         }
         Lock::TimeTooSmall { number, input } => {
-            put(answer, 7, [3, 3, number as u64, input, 0, 0, 0, 0])
+            put(answer, BAD_VALUE, [3, 3, number as u64, input, 0, 0, 0, 0])
         }
-        Lock::Malformed { input } => { put(answer, 7, [2, 4, input, 0, 0, 0, 0, 0]) }
+        Lock::Malformed { input } => { put(answer, BAD_VALUE, [2, 4, input, 0, 0, 0, 0, 0]) }
     }
 }
 
@@ -264,7 +296,7 @@ fn put_accepted(answer: &mut [u64], psbt: Psbt, pairs: usize, maps: usize) -> u6
         answer,
         0,
         [
-            7,
+            REPORT_VALUES,
             version,
             a,
             b,

@@ -1,10 +1,12 @@
 // The library for programs in C and Rust: every public call in numbers and slices (`include/fastpsbt.h`).
 use export_words::ANSWER;
 use export_words::NO_ROOM;
+use export_words::is_report;
 use export_words::psbt_of;
 use export_words::put_listing;
 use export_words::put_lock;
 use export_words::put_looked;
+use export_words::put_no_report;
 use export_words::put_nth;
 use export_words::put_numbered;
 use export_words::put_parsed;
@@ -53,6 +55,9 @@ pub extern "C" fn fastpsbt_lock_decided(
 ) -> u64
     ensures { λ r. ⌜ exported r (now (answer .exit)) ≡ asked (now (report .entry)) (now (answer .entry)) (λ s. toldLock (lockDecided (view (now (file .entry)) (now (pairs .entry)) (now (maps .entry)) s) s)) ⌝ }
 {
+    if !is_report(report) {
+        return put_no_report(answer);
+    }
     let psbt = psbt_of(report);
     let o = fastpsbt::lock_decided(file, pairs, maps, psbt);
     put_lock(answer, o)
@@ -77,6 +82,9 @@ pub extern "C" fn fastpsbt_set_sp_output_scripts(
 {
     if answer.len() < ANSWER {
         return NO_ROOM;
+    }
+    if !is_report(report) {
+        return put_no_report(answer);
     }
     let psbt = psbt_of(report);
     let state = state_of(set, written);
@@ -103,6 +111,9 @@ pub extern "C" fn fastpsbt_unsigned_tx(
     if answer.len() < ANSWER {
         return NO_ROOM;
     }
+    if !is_report(report) {
+        return put_no_report(answer);
+    }
     let psbt = psbt_of(report);
     let state = state_of(set, written);
     let o = fastpsbt::unsigned_tx(file, pairs, maps, psbt, state, scripts, out);
@@ -123,6 +134,9 @@ pub extern "C" fn fastpsbt_map_get(
 ) -> u64
     ensures { λ r. ⌜ exported r (now (answer .exit)) ≡ asked (now (report .entry)) (now (answer .entry)) (λ s. toldLooked (look (now (file .entry)) «key_type» (now («key_data» .entry)) (held (now (file .entry)) (now (pairs .entry)) (now (maps .entry)) s m))) ⌝ }
 {
+    if !is_report(report) {
+        return put_no_report(answer);
+    }
     let psbt = psbt_of(report);
     let o = fastpsbt::map::get(file, pairs, maps, psbt, m, key_type, key_data);
     put_looked(answer, o)
@@ -141,6 +155,9 @@ pub extern "C" fn fastpsbt_map_list(
 ) -> u64
     ensures { λ r. ⌜ exported r (now (answer .exit)) ≡ asked (now (report .entry)) (now (answer .entry)) (λ s. toldListing (list (now (file .entry)) «key_type» (held (now (file .entry)) (now (pairs .entry)) (now (maps .entry)) s m))) ⌝ }
 {
+    if !is_report(report) {
+        return put_no_report(answer);
+    }
     let psbt = psbt_of(report);
     let o = fastpsbt::map::list(file, pairs, maps, psbt, m, key_type);
     put_listing(answer, o)
@@ -159,6 +176,9 @@ pub extern "C" fn fastpsbt_map_nth(
 ) -> u64
     ensures { λ r. ⌜ exported r (now (answer .exit)) ≡ asked (now (report .entry)) (now (answer .entry)) (λ s. toldNth (nth i (held (now (file .entry)) (now (pairs .entry)) (now (maps .entry)) s m))) ⌝ }
 {
+    if !is_report(report) {
+        return put_no_report(answer);
+    }
     let psbt = psbt_of(report);
     let o = fastpsbt::map::nth(file, pairs, maps, psbt, m, i);
     put_nth(answer, o)
@@ -176,6 +196,9 @@ pub extern "C" fn fastpsbt_global_get_sp_ecdh_share(
 ) -> u64
     ensures { λ r. ⌜ exported r (now (answer .exit)) ≡ asked (now (report .entry)) (now (answer .entry)) (λ s. toldLooked (globalShare (now (file .entry)) (now («scan_key» .entry)) (held (now (file .entry)) (now (pairs .entry)) (now (maps .entry)) s 0))) ⌝ }
 {
+    if !is_report(report) {
+        return put_no_report(answer);
+    }
     let psbt = psbt_of(report);
     let o = fastpsbt::global::get_sp_ecdh_share(file, pairs, maps, psbt, scan_key);
     put_looked(answer, o)
@@ -193,6 +216,9 @@ pub extern "C" fn fastpsbt_global_get_sp_dleq_proof(
 ) -> u64
     ensures { λ r. ⌜ exported r (now (answer .exit)) ≡ asked (now (report .entry)) (now (answer .entry)) (λ s. toldLooked (globalProof (now (file .entry)) (now («scan_key» .entry)) (held (now (file .entry)) (now (pairs .entry)) (now (maps .entry)) s 0))) ⌝ }
 {
+    if !is_report(report) {
+        return put_no_report(answer);
+    }
     let psbt = psbt_of(report);
     let o = fastpsbt::global::get_sp_dleq_proof(file, pairs, maps, psbt, scan_key);
     put_looked(answer, o)
@@ -209,6 +235,9 @@ pub extern "C" fn fastpsbt_global_sp_ecdh_shares(
 ) -> u64
     ensures { λ r. ⌜ exported r (now (answer .exit)) ≡ asked (now (report .entry)) (now (answer .entry)) (λ s. toldListing (list (now (file .entry)) 0x07 (held (now (file .entry)) (now (pairs .entry)) (now (maps .entry)) s 0))) ⌝ }
 {
+    if !is_report(report) {
+        return put_no_report(answer);
+    }
     let psbt = psbt_of(report);
     let o = fastpsbt::global::sp_ecdh_shares(file, pairs, maps, psbt);
     put_listing(answer, o)
@@ -225,6 +254,9 @@ pub extern "C" fn fastpsbt_global_sp_dleq_proofs(
 ) -> u64
     ensures { λ r. ⌜ exported r (now (answer .exit)) ≡ asked (now (report .entry)) (now (answer .entry)) (λ s. toldListing (list (now (file .entry)) 0x08 (held (now (file .entry)) (now (pairs .entry)) (now (maps .entry)) s 0))) ⌝ }
 {
+    if !is_report(report) {
+        return put_no_report(answer);
+    }
     let psbt = psbt_of(report);
     let o = fastpsbt::global::sp_dleq_proofs(file, pairs, maps, psbt);
     put_listing(answer, o)
@@ -242,6 +274,9 @@ pub extern "C" fn fastpsbt_input_non_witness_utxo(
 ) -> u64
     ensures { λ r. ⌜ exported r (now (answer .exit)) ≡ asked (now (report .entry)) (now (answer .entry)) (λ s. toldLooked (nonWitnessUtxo (now (file .entry)) (heldInput (now (file .entry)) (now (pairs .entry)) (now (maps .entry)) s i))) ⌝ }
 {
+    if !is_report(report) {
+        return put_no_report(answer);
+    }
     let psbt = psbt_of(report);
     let o = fastpsbt::input::non_witness_utxo(file, pairs, maps, psbt, i);
     put_looked(answer, o)
@@ -259,6 +294,9 @@ pub extern "C" fn fastpsbt_input_witness_utxo(
 ) -> u64
     ensures { λ r. ⌜ exported r (now (answer .exit)) ≡ asked (now (report .entry)) (now (answer .entry)) (λ s. toldLooked (witnessUtxo (now (file .entry)) (heldInput (now (file .entry)) (now (pairs .entry)) (now (maps .entry)) s i))) ⌝ }
 {
+    if !is_report(report) {
+        return put_no_report(answer);
+    }
     let psbt = psbt_of(report);
     let o = fastpsbt::input::witness_utxo(file, pairs, maps, psbt, i);
     put_looked(answer, o)
@@ -276,6 +314,9 @@ pub extern "C" fn fastpsbt_input_sighash_type(
 ) -> u64
     ensures { λ r. ⌜ exported r (now (answer .exit)) ≡ asked (now (report .entry)) (now (answer .entry)) (λ s. toldNumbered (sighashType (now (file .entry)) (heldInput (now (file .entry)) (now (pairs .entry)) (now (maps .entry)) s i))) ⌝ }
 {
+    if !is_report(report) {
+        return put_no_report(answer);
+    }
     let psbt = psbt_of(report);
     let o = fastpsbt::input::sighash_type(file, pairs, maps, psbt, i);
     put_numbered(answer, o)
@@ -293,6 +334,9 @@ pub extern "C" fn fastpsbt_input_redeem_script(
 ) -> u64
     ensures { λ r. ⌜ exported r (now (answer .exit)) ≡ asked (now (report .entry)) (now (answer .entry)) (λ s. toldLooked (redeemScript (now (file .entry)) (heldInput (now (file .entry)) (now (pairs .entry)) (now (maps .entry)) s i))) ⌝ }
 {
+    if !is_report(report) {
+        return put_no_report(answer);
+    }
     let psbt = psbt_of(report);
     let o = fastpsbt::input::redeem_script(file, pairs, maps, psbt, i);
     put_looked(answer, o)
@@ -310,6 +354,9 @@ pub extern "C" fn fastpsbt_input_witness_script(
 ) -> u64
     ensures { λ r. ⌜ exported r (now (answer .exit)) ≡ asked (now (report .entry)) (now (answer .entry)) (λ s. toldLooked (witnessScript (now (file .entry)) (heldInput (now (file .entry)) (now (pairs .entry)) (now (maps .entry)) s i))) ⌝ }
 {
+    if !is_report(report) {
+        return put_no_report(answer);
+    }
     let psbt = psbt_of(report);
     let o = fastpsbt::input::witness_script(file, pairs, maps, psbt, i);
     put_looked(answer, o)
@@ -327,6 +374,9 @@ pub extern "C" fn fastpsbt_input_final_scriptsig(
 ) -> u64
     ensures { λ r. ⌜ exported r (now (answer .exit)) ≡ asked (now (report .entry)) (now (answer .entry)) (λ s. toldLooked (finalScriptsig (now (file .entry)) (heldInput (now (file .entry)) (now (pairs .entry)) (now (maps .entry)) s i))) ⌝ }
 {
+    if !is_report(report) {
+        return put_no_report(answer);
+    }
     let psbt = psbt_of(report);
     let o = fastpsbt::input::final_scriptsig(file, pairs, maps, psbt, i);
     put_looked(answer, o)
@@ -344,6 +394,9 @@ pub extern "C" fn fastpsbt_input_final_scriptwitness(
 ) -> u64
     ensures { λ r. ⌜ exported r (now (answer .exit)) ≡ asked (now (report .entry)) (now (answer .entry)) (λ s. toldLooked (finalScriptwitness (now (file .entry)) (heldInput (now (file .entry)) (now (pairs .entry)) (now (maps .entry)) s i))) ⌝ }
 {
+    if !is_report(report) {
+        return put_no_report(answer);
+    }
     let psbt = psbt_of(report);
     let o = fastpsbt::input::final_scriptwitness(file, pairs, maps, psbt, i);
     put_looked(answer, o)
@@ -361,6 +414,9 @@ pub extern "C" fn fastpsbt_input_previous_txid(
 ) -> u64
     ensures { λ r. ⌜ exported r (now (answer .exit)) ≡ asked (now (report .entry)) (now (answer .entry)) (λ s. toldLooked (previousTxid (now (file .entry)) (heldInput (now (file .entry)) (now (pairs .entry)) (now (maps .entry)) s i))) ⌝ }
 {
+    if !is_report(report) {
+        return put_no_report(answer);
+    }
     let psbt = psbt_of(report);
     let o = fastpsbt::input::previous_txid(file, pairs, maps, psbt, i);
     put_looked(answer, o)
@@ -378,6 +434,9 @@ pub extern "C" fn fastpsbt_input_output_index(
 ) -> u64
     ensures { λ r. ⌜ exported r (now (answer .exit)) ≡ asked (now (report .entry)) (now (answer .entry)) (λ s. toldNumbered (outputIndex (now (file .entry)) (heldInput (now (file .entry)) (now (pairs .entry)) (now (maps .entry)) s i))) ⌝ }
 {
+    if !is_report(report) {
+        return put_no_report(answer);
+    }
     let psbt = psbt_of(report);
     let o = fastpsbt::input::output_index(file, pairs, maps, psbt, i);
     put_numbered(answer, o)
@@ -395,6 +454,9 @@ pub extern "C" fn fastpsbt_input_sequence(
 ) -> u64
     ensures { λ r. ⌜ exported r (now (answer .exit)) ≡ asked (now (report .entry)) (now (answer .entry)) (λ s. toldNumbered (sequence (now (file .entry)) (heldInput (now (file .entry)) (now (pairs .entry)) (now (maps .entry)) s i))) ⌝ }
 {
+    if !is_report(report) {
+        return put_no_report(answer);
+    }
     let psbt = psbt_of(report);
     let o = fastpsbt::input::sequence(file, pairs, maps, psbt, i);
     put_numbered(answer, o)
@@ -412,6 +474,9 @@ pub extern "C" fn fastpsbt_input_required_time_locktime(
 ) -> u64
     ensures { λ r. ⌜ exported r (now (answer .exit)) ≡ asked (now (report .entry)) (now (answer .entry)) (λ s. toldNumbered (requiredTimeLocktime (now (file .entry)) (heldInput (now (file .entry)) (now (pairs .entry)) (now (maps .entry)) s i))) ⌝ }
 {
+    if !is_report(report) {
+        return put_no_report(answer);
+    }
     let psbt = psbt_of(report);
     let o = fastpsbt::input::required_time_locktime(file, pairs, maps, psbt, i);
     put_numbered(answer, o)
@@ -429,6 +494,9 @@ pub extern "C" fn fastpsbt_input_required_height_locktime(
 ) -> u64
     ensures { λ r. ⌜ exported r (now (answer .exit)) ≡ asked (now (report .entry)) (now (answer .entry)) (λ s. toldNumbered (requiredHeightLocktime (now (file .entry)) (heldInput (now (file .entry)) (now (pairs .entry)) (now (maps .entry)) s i))) ⌝ }
 {
+    if !is_report(report) {
+        return put_no_report(answer);
+    }
     let psbt = psbt_of(report);
     let o = fastpsbt::input::required_height_locktime(file, pairs, maps, psbt, i);
     put_numbered(answer, o)
@@ -446,6 +514,9 @@ pub extern "C" fn fastpsbt_input_sp_tweak(
 ) -> u64
     ensures { λ r. ⌜ exported r (now (answer .exit)) ≡ asked (now (report .entry)) (now (answer .entry)) (λ s. toldLooked (spTweak (now (file .entry)) (heldInput (now (file .entry)) (now (pairs .entry)) (now (maps .entry)) s i))) ⌝ }
 {
+    if !is_report(report) {
+        return put_no_report(answer);
+    }
     let psbt = psbt_of(report);
     let o = fastpsbt::input::sp_tweak(file, pairs, maps, psbt, i);
     put_looked(answer, o)
@@ -464,6 +535,9 @@ pub extern "C" fn fastpsbt_input_iter_keys(
 ) -> u64
     ensures { λ r. ⌜ exported r (now (answer .exit)) ≡ asked (now (report .entry)) (now (answer .entry)) (λ s. toldListing (list (now (file .entry)) «key_type» (heldInput (now (file .entry)) (now (pairs .entry)) (now (maps .entry)) s i))) ⌝ }
 {
+    if !is_report(report) {
+        return put_no_report(answer);
+    }
     let psbt = psbt_of(report);
     let o = fastpsbt::input::iter_keys(file, pairs, maps, psbt, i, key_type);
     put_listing(answer, o)
@@ -481,6 +555,9 @@ pub extern "C" fn fastpsbt_input_bip32_derivations(
 ) -> u64
     ensures { λ r. ⌜ exported r (now (answer .exit)) ≡ asked (now (report .entry)) (now (answer .entry)) (λ s. toldListing (list (now (file .entry)) 0x06 (heldInput (now (file .entry)) (now (pairs .entry)) (now (maps .entry)) s i))) ⌝ }
 {
+    if !is_report(report) {
+        return put_no_report(answer);
+    }
     let psbt = psbt_of(report);
     let o = fastpsbt::input::bip32_derivations(file, pairs, maps, psbt, i);
     put_listing(answer, o)
@@ -499,6 +576,9 @@ pub extern "C" fn fastpsbt_input_get_sp_ecdh_share(
 ) -> u64
     ensures { λ r. ⌜ exported r (now (answer .exit)) ≡ asked (now (report .entry)) (now (answer .entry)) (λ s. toldLooked (inputShare (now (file .entry)) (now («scan_key» .entry)) (heldInput (now (file .entry)) (now (pairs .entry)) (now (maps .entry)) s i))) ⌝ }
 {
+    if !is_report(report) {
+        return put_no_report(answer);
+    }
     let psbt = psbt_of(report);
     let o = fastpsbt::input::get_sp_ecdh_share(file, pairs, maps, psbt, i, scan_key);
     put_looked(answer, o)
@@ -517,6 +597,9 @@ pub extern "C" fn fastpsbt_input_get_sp_dleq_proof(
 ) -> u64
     ensures { λ r. ⌜ exported r (now (answer .exit)) ≡ asked (now (report .entry)) (now (answer .entry)) (λ s. toldLooked (inputProof (now (file .entry)) (now («scan_key» .entry)) (heldInput (now (file .entry)) (now (pairs .entry)) (now (maps .entry)) s i))) ⌝ }
 {
+    if !is_report(report) {
+        return put_no_report(answer);
+    }
     let psbt = psbt_of(report);
     let o = fastpsbt::input::get_sp_dleq_proof(file, pairs, maps, psbt, i, scan_key);
     put_looked(answer, o)
@@ -534,6 +617,9 @@ pub extern "C" fn fastpsbt_input_sp_ecdh_shares(
 ) -> u64
     ensures { λ r. ⌜ exported r (now (answer .exit)) ≡ asked (now (report .entry)) (now (answer .entry)) (λ s. toldListing (list (now (file .entry)) 0x1d (heldInput (now (file .entry)) (now (pairs .entry)) (now (maps .entry)) s i))) ⌝ }
 {
+    if !is_report(report) {
+        return put_no_report(answer);
+    }
     let psbt = psbt_of(report);
     let o = fastpsbt::input::sp_ecdh_shares(file, pairs, maps, psbt, i);
     put_listing(answer, o)
@@ -551,6 +637,9 @@ pub extern "C" fn fastpsbt_input_sp_dleq_proofs(
 ) -> u64
     ensures { λ r. ⌜ exported r (now (answer .exit)) ≡ asked (now (report .entry)) (now (answer .entry)) (λ s. toldListing (list (now (file .entry)) 0x1e (heldInput (now (file .entry)) (now (pairs .entry)) (now (maps .entry)) s i))) ⌝ }
 {
+    if !is_report(report) {
+        return put_no_report(answer);
+    }
     let psbt = psbt_of(report);
     let o = fastpsbt::input::sp_dleq_proofs(file, pairs, maps, psbt, i);
     put_listing(answer, o)
@@ -568,6 +657,9 @@ pub extern "C" fn fastpsbt_input_sp_spend_bip32_derivations(
 ) -> u64
     ensures { λ r. ⌜ exported r (now (answer .exit)) ≡ asked (now (report .entry)) (now (answer .entry)) (λ s. toldListing (list (now (file .entry)) 0x1f (heldInput (now (file .entry)) (now (pairs .entry)) (now (maps .entry)) s i))) ⌝ }
 {
+    if !is_report(report) {
+        return put_no_report(answer);
+    }
     let psbt = psbt_of(report);
     let o = fastpsbt::input::sp_spend_bip32_derivations(file, pairs, maps, psbt, i);
     put_listing(answer, o)
@@ -588,6 +680,9 @@ pub extern "C" fn fastpsbt_input_get_musig2_pub_nonce(
 ) -> u64
     ensures { λ r. ⌜ exported r (now (answer .exit)) ≡ asked (now (report .entry)) (now (answer .entry)) (λ s. toldLooked (pubNonce (now (file .entry)) (now (participant .entry)) (now (aggregate .entry)) (now (leaf .entry)) (heldInput (now (file .entry)) (now (pairs .entry)) (now (maps .entry)) s i))) ⌝ }
 {
+    if !is_report(report) {
+        return put_no_report(answer);
+    }
     let psbt = psbt_of(report);
     let o = fastpsbt::input::get_musig2_pub_nonce(
         file,
@@ -617,6 +712,9 @@ pub extern "C" fn fastpsbt_input_get_musig2_partial_sig(
 ) -> u64
     ensures { λ r. ⌜ exported r (now (answer .exit)) ≡ asked (now (report .entry)) (now (answer .entry)) (λ s. toldLooked (partialSig (now (file .entry)) (now (participant .entry)) (now (aggregate .entry)) (now (leaf .entry)) (heldInput (now (file .entry)) (now (pairs .entry)) (now (maps .entry)) s i))) ⌝ }
 {
+    if !is_report(report) {
+        return put_no_report(answer);
+    }
     let psbt = psbt_of(report);
     let o = fastpsbt::input::get_musig2_partial_sig(
         file,
@@ -645,6 +743,9 @@ pub extern "C" fn fastpsbt_input_get_musig2_participant_pubkeys(
 ) -> u64
     ensures { λ r. ⌜ exported r (now (answer .exit)) ≡ asked (now (report .entry)) (now (answer .entry)) (λ s. toldLooked (inputParticipants (now (file .entry)) (now (aggregate .entry)) (now (leaf .entry)) (heldInput (now (file .entry)) (now (pairs .entry)) (now (maps .entry)) s i))) ⌝ }
 {
+    if !is_report(report) {
+        return put_no_report(answer);
+    }
     let psbt = psbt_of(report);
     let o = fastpsbt::input::get_musig2_participant_pubkeys(
         file,
@@ -672,6 +773,9 @@ pub extern "C" fn fastpsbt_input_get_musig2_participant_count(
 ) -> u64
     ensures { λ r. ⌜ exported r (now (answer .exit)) ≡ asked (now (report .entry)) (now (answer .entry)) (λ s. toldNumbered (participantCount (inputParticipants (now (file .entry)) (now (aggregate .entry)) (now (leaf .entry)) (heldInput (now (file .entry)) (now (pairs .entry)) (now (maps .entry)) s i)))) ⌝ }
 {
+    if !is_report(report) {
+        return put_no_report(answer);
+    }
     let psbt = psbt_of(report);
     let o = fastpsbt::input::get_musig2_participant_count(
         file,
@@ -700,6 +804,9 @@ pub extern "C" fn fastpsbt_input_get_musig2_participant(
 ) -> u64
     ensures { λ r. ⌜ exported r (now (answer .exit)) ≡ asked (now (report .entry)) (now (answer .entry)) (λ s. toldLooked (participant n (inputParticipants (now (file .entry)) (now (aggregate .entry)) (now (leaf .entry)) (heldInput (now (file .entry)) (now (pairs .entry)) (now (maps .entry)) s i)))) ⌝ }
 {
+    if !is_report(report) {
+        return put_no_report(answer);
+    }
     let psbt = psbt_of(report);
     let o = fastpsbt::input::get_musig2_participant(file, pairs, maps, psbt, i, aggregate, leaf, n);
     put_looked(answer, o)
@@ -717,6 +824,9 @@ pub extern "C" fn fastpsbt_input_get_witness_utxo(
 ) -> u64
     ensures { λ r. ⌜ exported r (now (answer .exit)) ≡ asked (now (report .entry)) (now (answer .entry)) (λ s. toldUtxo (getWitnessUtxo (now (file .entry)) (heldInput (now (file .entry)) (now (pairs .entry)) (now (maps .entry)) s i))) ⌝ }
 {
+    if !is_report(report) {
+        return put_no_report(answer);
+    }
     let psbt = psbt_of(report);
     let o = fastpsbt::input::get_witness_utxo(file, pairs, maps, psbt, i);
     put_utxo(answer, o)
@@ -734,6 +844,9 @@ pub extern "C" fn fastpsbt_output_redeem_script(
 ) -> u64
     ensures { λ r. ⌜ exported r (now (answer .exit)) ≡ asked (now (report .entry)) (now (answer .entry)) (λ s. toldLooked (outRedeemScript (now (file .entry)) (heldOutput (now (file .entry)) (now (pairs .entry)) (now (maps .entry)) s i))) ⌝ }
 {
+    if !is_report(report) {
+        return put_no_report(answer);
+    }
     let psbt = psbt_of(report);
     let o = fastpsbt::output::redeem_script(file, pairs, maps, psbt, i);
     put_looked(answer, o)
@@ -751,6 +864,9 @@ pub extern "C" fn fastpsbt_output_witness_script(
 ) -> u64
     ensures { λ r. ⌜ exported r (now (answer .exit)) ≡ asked (now (report .entry)) (now (answer .entry)) (λ s. toldLooked (outWitnessScript (now (file .entry)) (heldOutput (now (file .entry)) (now (pairs .entry)) (now (maps .entry)) s i))) ⌝ }
 {
+    if !is_report(report) {
+        return put_no_report(answer);
+    }
     let psbt = psbt_of(report);
     let o = fastpsbt::output::witness_script(file, pairs, maps, psbt, i);
     put_looked(answer, o)
@@ -768,6 +884,9 @@ pub extern "C" fn fastpsbt_output_amount(
 ) -> u64
     ensures { λ r. ⌜ exported r (now (answer .exit)) ≡ asked (now (report .entry)) (now (answer .entry)) (λ s. toldNumbered (amount (now (file .entry)) (heldOutput (now (file .entry)) (now (pairs .entry)) (now (maps .entry)) s i))) ⌝ }
 {
+    if !is_report(report) {
+        return put_no_report(answer);
+    }
     let psbt = psbt_of(report);
     let o = fastpsbt::output::amount(file, pairs, maps, psbt, i);
     put_numbered(answer, o)
@@ -785,6 +904,9 @@ pub extern "C" fn fastpsbt_output_script(
 ) -> u64
     ensures { λ r. ⌜ exported r (now (answer .exit)) ≡ asked (now (report .entry)) (now (answer .entry)) (λ s. toldLooked (script (now (file .entry)) (heldOutput (now (file .entry)) (now (pairs .entry)) (now (maps .entry)) s i))) ⌝ }
 {
+    if !is_report(report) {
+        return put_no_report(answer);
+    }
     let psbt = psbt_of(report);
     let o = fastpsbt::output::script(file, pairs, maps, psbt, i);
     put_looked(answer, o)
@@ -802,6 +924,9 @@ pub extern "C" fn fastpsbt_output_sp_v0_info(
 ) -> u64
     ensures { λ r. ⌜ exported r (now (answer .exit)) ≡ asked (now (report .entry)) (now (answer .entry)) (λ s. toldLooked (spV0Info (now (file .entry)) (heldOutput (now (file .entry)) (now (pairs .entry)) (now (maps .entry)) s i))) ⌝ }
 {
+    if !is_report(report) {
+        return put_no_report(answer);
+    }
     let psbt = psbt_of(report);
     let o = fastpsbt::output::sp_v0_info(file, pairs, maps, psbt, i);
     put_looked(answer, o)
@@ -819,6 +944,9 @@ pub extern "C" fn fastpsbt_output_sp_v0_label(
 ) -> u64
     ensures { λ r. ⌜ exported r (now (answer .exit)) ≡ asked (now (report .entry)) (now (answer .entry)) (λ s. toldNumbered (spV0Label (now (file .entry)) (heldOutput (now (file .entry)) (now (pairs .entry)) (now (maps .entry)) s i))) ⌝ }
 {
+    if !is_report(report) {
+        return put_no_report(answer);
+    }
     let psbt = psbt_of(report);
     let o = fastpsbt::output::sp_v0_label(file, pairs, maps, psbt, i);
     put_numbered(answer, o)
@@ -837,6 +965,9 @@ pub extern "C" fn fastpsbt_output_iter_keys(
 ) -> u64
     ensures { λ r. ⌜ exported r (now (answer .exit)) ≡ asked (now (report .entry)) (now (answer .entry)) (λ s. toldListing (list (now (file .entry)) «key_type» (heldOutput (now (file .entry)) (now (pairs .entry)) (now (maps .entry)) s i))) ⌝ }
 {
+    if !is_report(report) {
+        return put_no_report(answer);
+    }
     let psbt = psbt_of(report);
     let o = fastpsbt::output::iter_keys(file, pairs, maps, psbt, i, key_type);
     put_listing(answer, o)
@@ -854,6 +985,9 @@ pub extern "C" fn fastpsbt_output_bip32_derivations(
 ) -> u64
     ensures { λ r. ⌜ exported r (now (answer .exit)) ≡ asked (now (report .entry)) (now (answer .entry)) (λ s. toldListing (list (now (file .entry)) 0x02 (heldOutput (now (file .entry)) (now (pairs .entry)) (now (maps .entry)) s i))) ⌝ }
 {
+    if !is_report(report) {
+        return put_no_report(answer);
+    }
     let psbt = psbt_of(report);
     let o = fastpsbt::output::bip32_derivations(file, pairs, maps, psbt, i);
     put_listing(answer, o)
@@ -872,6 +1006,9 @@ pub extern "C" fn fastpsbt_output_get_musig2_participant_pubkeys(
 ) -> u64
     ensures { λ r. ⌜ exported r (now (answer .exit)) ≡ asked (now (report .entry)) (now (answer .entry)) (λ s. toldLooked (outputParticipants (now (file .entry)) (now (aggregate .entry)) (heldOutput (now (file .entry)) (now (pairs .entry)) (now (maps .entry)) s i))) ⌝ }
 {
+    if !is_report(report) {
+        return put_no_report(answer);
+    }
     let psbt = psbt_of(report);
     let o = fastpsbt::output::get_musig2_participant_pubkeys(file, pairs, maps, psbt, i, aggregate);
     put_looked(answer, o)
@@ -890,6 +1027,9 @@ pub extern "C" fn fastpsbt_output_get_musig2_participant_count(
 ) -> u64
     ensures { λ r. ⌜ exported r (now (answer .exit)) ≡ asked (now (report .entry)) (now (answer .entry)) (λ s. toldNumbered (participantCount (outputParticipants (now (file .entry)) (now (aggregate .entry)) (heldOutput (now (file .entry)) (now (pairs .entry)) (now (maps .entry)) s i)))) ⌝ }
 {
+    if !is_report(report) {
+        return put_no_report(answer);
+    }
     let psbt = psbt_of(report);
     let o = fastpsbt::output::get_musig2_participant_count(file, pairs, maps, psbt, i, aggregate);
     put_numbered(answer, o)
@@ -909,6 +1049,9 @@ pub extern "C" fn fastpsbt_output_get_musig2_participant(
 ) -> u64
     ensures { λ r. ⌜ exported r (now (answer .exit)) ≡ asked (now (report .entry)) (now (answer .entry)) (λ s. toldLooked (participant n (outputParticipants (now (file .entry)) (now (aggregate .entry)) (heldOutput (now (file .entry)) (now (pairs .entry)) (now (maps .entry)) s i)))) ⌝ }
 {
+    if !is_report(report) {
+        return put_no_report(answer);
+    }
     let psbt = psbt_of(report);
     let o = fastpsbt::output::get_musig2_participant(file, pairs, maps, psbt, i, aggregate, n);
     put_looked(answer, o)
@@ -929,6 +1072,9 @@ pub extern "C" fn fastpsbt_output_output_script(
 ) -> u64
     ensures { λ r. ⌜ exported r (now (answer .exit)) ≡ askedIn set written (now (report .entry)) (now (answer .entry)) (λ t s. toldScript (outputScript (now (file .entry)) t (now (scripts .entry)) i (heldOutput (now (file .entry)) (now (pairs .entry)) (now (maps .entry)) s i))) ⌝ }
 {
+    if !is_report(report) {
+        return put_no_report(answer);
+    }
     let psbt = psbt_of(report);
     let state = state_of(set, written);
     let o = fastpsbt::output::output_script(file, pairs, maps, psbt, state, scripts, i);

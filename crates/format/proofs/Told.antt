@@ -258,7 +258,7 @@ lockOf : Told → Lock
 lockOf (told n vs) = lockBy (errorOf n) vs
 
 lock-of : (a : Lock) → lockOf (toldLock a) ≡ a
-unfolding toldLock lockOf lockBy lockRule errorOf errors intOf natOf flagOf intAt natAt flagAt
+unfolding toldLock lockOf lockBy lockRule errorOf errors numberOf intOf natOf flagOf intAt natAt flagAt
 lock-of (D.Refused e) = rw (error-of e)
 lock-of (D.Height n i) = refl
 lock-of (D.Time n i) = refl

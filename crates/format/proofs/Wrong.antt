@@ -8,7 +8,8 @@ use lib.ListN.{replicate, drop}
 use Rattle.format.specs.Parse.{out, parsed}
 use Rattle.format.specs.Tables.{view}
 use Rattle.format.specs.Transaction.{txOut, unsignedTx}
-use Rattle.format.specs.Examples.{computes, fileE, fileF, psbtE, psbtF, pairsE, pairsF, mapsF, fresh, txF}
+use Rattle.format.specs.ExampleFiles.{fileE, fileF, psbtE, psbtF, pairsE, pairsF, mapsF, fresh, txF}
+use Rattle.format.specs.Computed.{computes}
 use Rattle.format.specs.declared.PsbtError.{PsbtError}
 use Rattle.format.specs.declared.Psbt.{Psbt}
 use Rattle.format.specs.declared.Parsed.{Parsed}

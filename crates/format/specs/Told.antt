@@ -7,6 +7,7 @@ use Rattle.format.specs.Refusals.{numberOf}
 use Rattle.format.specs.Parse.{ParseOut, out}
 use Rattle.format.specs.Scripts.{SetOut, setOut}
 use Rattle.format.specs.Transaction.{TxOut, txOut}
+use Rattle.format.specs.declared.PsbtError.the-variants.{BadValue}
 use Rattle.format.specs.declared.Maybe.{Maybe}
 use Rattle.format.specs.declared.Maybe.the-variants.{Absent, Present}
 use Rattle.format.specs.declared.Parsed.{Parsed}
@@ -89,10 +90,10 @@ toldLock (D.Refused e) = told (numberOf e) []
 toldLock (D.Fallback n) = told 0 (nat 0 ∷ nat n ∷ [])
 toldLock (D.Height n i) = told 0 (nat 1 ∷ nat n ∷ nat i ∷ [])
 toldLock (D.Time n i) = told 0 (nat 2 ∷ nat n ∷ nat i ∷ [])
-toldLock (D.BothKinds h t) = told 7 (nat 1 ∷ nat h ∷ nat t ∷ [])
-toldLock (D.HeightTooGreat n i) = told 7 (nat 2 ∷ nat n ∷ nat i ∷ [])
-toldLock (D.TimeTooSmall n i) = told 7 (nat 3 ∷ nat n ∷ nat i ∷ [])
-toldLock (D.Malformed i) = told 7 (nat 4 ∷ nat i ∷ [])
+toldLock (D.BothKinds h t) = told (numberOf BadValue) (nat 1 ∷ nat h ∷ nat t ∷ [])
+toldLock (D.HeightTooGreat n i) = told (numberOf BadValue) (nat 2 ∷ nat n ∷ nat i ∷ [])
+toldLock (D.TimeTooSmall n i) = told (numberOf BadValue) (nat 3 ∷ nat n ∷ nat i ∷ [])
+toldLock (D.Malformed i) = told (numberOf BadValue) (nat 4 ∷ nat i ∷ [])
 
 -- of the setter: whether scripts are set, whether a transaction was written
 unfoldable pub toldSet : ScriptsSet → Told

@@ -20,9 +20,8 @@ use Rattle.format.specs.declared.Psbt.{Psbt}
 use Rattle.format.specs.declared.State.{State}
 use Rattle.format.specs.declared.UnsignedTx.the-variants.{Written}
 use Rattle.format.proofs.Tests.{pick-by}
-use Rattle.format.proofs.Numbers.{All, Byte, le-below}
+use Rattle.format.proofs.Numbers.{All, Byte, le-below, all-split}
 use Rattle.honours.specs.Honours.{Spells, Meets, Honours, lockIn, TimesFit, ByteValues, ShowsBytes}
-use Rattle.honours.proofs.Decisions.{all-split}
 use Rattle.honours.proofs.Ends.{never-writes}
 use Rattle.honours.proofs.Honours.{meets, honours}
 

@@ -11,17 +11,13 @@ use Rattle.format.specs.Locks.{Sized, missing, misfit, is, In, Asked, threshold
 use Rattle.format.specs.declared.Maybe.{Maybe}
 use Rattle.format.specs.declared.Lock.{Lock}
 use Rattle.format.proofs.Tests.{pick-by, never-true}
-use Rattle.format.proofs.Numbers.{All}
+use Rattle.format.proofs.Numbers.{All, all-split}
 use Rattle.honours.specs.Honours.{Spells, AsksHeight, AsksTime, IsMalformed, At, AskedAt, EachAsked, NoneAsked, WellFormed, Greatest, Says}
 
 module _ {A : Type 0} (P : A → Type 0) where
   all-join : (xs ys : List A) → All P xs → All P ys → All P (xs ++ ys)
   all-join [] ys h k = k
   all-join (x ∷ xs) ys h k = (h .0, all-join xs ys (h .1) k)
-
-  pub all-split : (xs ys : List A) → All P (xs ++ ys) → All P xs × All P ys
-  all-split [] ys h = (tt, h)
-  all-split (x ∷ xs) ys h = let r = all-split xs ys (h .1) in ((h .0, r .0), r .1)
 
   -- a walk finds only what it finds at some input, and all of that
   along-only : (f : In → ℕ → List A) (i : ℕ) (xs : List In) → ((j : ℕ) (x : In) → At xs j x → All P (f x (i + j))) → All P (along f i xs)
@@ -35,7 +31,7 @@ module _ {A : Type 0} (P : A → Type 0) where
   along-all : (f : In → ℕ → List A) (Q : In → Type 0) → ((j : ℕ) (x : In) → All P (f x j) → Q x) → (i : ℕ) (xs : List In) → All P (along f i xs) → All Q xs
   unfolding along
   along-all f Q k i [] h = tt
-  along-all f Q k i (y ∷ ys) h = let s = all-split (f y i) (along f (i + 1) ys) h in (k i y (s .0), along-all f Q k (i + 1) ys (s .1))
+  along-all f Q k i (y ∷ ys) h = let s = all-split P (f y i) (along f (i + 1) ys) h in (k i y (s .0), along-all f Q k (i + 1) ys (s .1))
 
 -- at an input: the number that a field spells
 asked-only : (P : Asked → Type 0) (f : Sized) (i : ℕ) → ((n : ℕ) → Spells f n → P (record { number = n; input = i })) → All P (askedBy f i)

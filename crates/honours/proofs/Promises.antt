@@ -3,9 +3,11 @@ use mathlib.Core.Path.{_≡_, refl, sym, _∙_, ap}
 use mathlib.Core.List.{List}
 use Prim.Native.Nat.{ℕ}
 use lib.ListN.{take}
+use Rattle.format.specs.Tests.{pick}
 use Rattle.format.specs.Tables.{view}
-use Rattle.format.specs.Scripts.{Reported, unfitMap, reports, reported}
-use Rattle.format.specs.Transaction.{Tx, tableFits, setSoFar, txReported, TxOut, txOut, written, unsignedTx}
+use Rattle.format.specs.Locks.{In}
+use Rattle.format.specs.Scripts.{Out, Reported, unfitMap, reports, reported}
+use Rattle.format.specs.Transaction.{Tx, refuses, tableFits, setSoFar, txReported, TxOut, txOut, written, unsignedTx}
 use Rattle.format.specs.Told.{toldLeft, toldTx, toldTxOut}
 use Rattle.format.specs.declared.PsbtError.{PsbtError}
 use Rattle.format.specs.declared.PsbtError.the-variants.{BadValue, BadIndex}
@@ -13,16 +15,16 @@ use Rattle.format.specs.declared.Psbt.{Psbt}
 use Rattle.format.specs.declared.State.{State}
 use Rattle.format.specs.declared.UnsignedTx.{UnsignedTx}
 use Rattle.format.specs.declared.UnsignedTx.the-variants.{Refused, Written}
-use Rattle.format.proofs.Tests.{pick-by}
+use Rattle.format.proofs.Tests.{pick-ap}
 use Rattle.format.proofs.Numbers.{All, Byte}
 use Rattle.format.proofs.Told.{tx-out-one}
-use Rattle.honours.specs.Honours.{lockIn, AllHonoured, FallenClock}
+use Rattle.honours.specs.Honours.{lockIn, AllHonoured, FallenTimes, FallenClock}
 use Rattle.honours.proofs.Ends.{never-writes}
 use Rattle.honours.proofs.Honours.{times-too-small}
 use Rattle.honours.proofs.Calls.{view-bytes, written-is, call-meets, call-honours}
 
 -- an outcome that meets the promise is the definition's
-outcome : (r : UnsignedTx) (B′ : List ℕ) (o : TxOut) → toldLeft (toldTx r) B′ ≡ toldTxOut o → o ≡ txOut r B′
+pub outcome : (r : UnsignedTx) (B′ : List ℕ) (o : TxOut) → toldLeft (toldTx r) B′ ≡ toldTxOut o → o ≡ txOut r B′
 unfolding toldTxOut
 outcome r B′ o p = sym (tx-out-one (txOut r B′) o p)
 
@@ -44,18 +46,23 @@ pub written-honours : (f P M : List ℕ) (s : Psbt) (t : State) (T B : List ℕ)
 written-honours f P M s t T B bytes r B′ promise n t′ w =
     honoured-by f P M s t T B bytes n t′ B′ (outcome r B′ _ promise ∙ ap (λ (x : UnsignedTx). txOut x B′) w) (reported (view f P M s) s) refl
 
+-- where the greatest time is too small: 24 if the script table is unfit, else 7
+pub fallen-refused : (s : Psbt) (t : State) (T : List ℕ) (ins : List In) (outs : List Out) → FallenTimes ins
+    → txReported s t T (reports ins outs) ≡ refuses (pick (tableFits t outs T) BadValue BadIndex)
+unfolding txReported
+fallen-refused s t T ins outs h =
+    ap (λ (x : Tx). pick (tableFits t outs T) x (refuses BadIndex)) (times-too-small s ins outs (setSoFar t T) (h .0 .0) (h .0 .1) (h .0 .2) (h .1))
+    ∙ sym (pick-ap refuses (tableFits t outs T) BadValue BadIndex)
+
 -- a refusal leaves the buffer as it was
 abbrev Refusal : List ℕ → TxOut → Type 0
 Refusal B o = (e : PsbtError) × (o ≡ txOut (Refused e) B)
 
 module _ (s : Psbt) (t : State) (T B : List ℕ) where
   fallen-by : (x : Reported) → FallenClock x → Refusal B (written t B (txReported s t T x))
-  unfolding txReported written
+  unfolding written
   fallen-by (unfitMap e) h = absurd h
-  fallen-by (reports ins outs) h =
-      pick-by (λ (y : Tx). Refusal B (written t B y)) (tableFits t outs T) _ _
-      (λ q. (BadValue, ap (written t B) (times-too-small s ins outs (setSoFar t T) (h .0 .0) (h .0 .1) (h .0 .2) (h .1))))
-      (λ q. (BadIndex, refl))
+  fallen-by (reports ins outs) h = (_, ap (written t B) (fallen-refused s t T ins outs h))
 
 -- of any file and tables whose greatest time asked for is below the threshold, and any outcome that meets the promise: it is a refusal, and the buffer is as it was
 pub fallen-clock-never : (f P M : List ℕ) (s : Psbt) (t : State) (T B : List ℕ) → FallenClock (reported (view f P M s) s)

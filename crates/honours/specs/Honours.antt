@@ -36,11 +36,17 @@ pub record Meets (n : ℕ) (x : In) : Type 0 where
   pub height : (h : ℕ) → AsksHeight x h → (n < threshold) × (h ≤ n)
   pub time : (t : ℕ) → AsksTime x t → (threshold ≤ n) × (t ≤ n)
 
--- lock n honours x: x asks nothing; or for a height, and n is a height, not below it; or for a time, and n is a time, not below it
+-- a field that is not there; one of a wrong length is there
+abbrev pub Lacking : Sized → Type 0
+Lacking missing = Unit {0}
+Lacking misfit = ⊥
+Lacking (is v) = ⊥
+
+-- lock n honours x: x has neither height nor time; or a height alone, and n is a height, not below it; or a time alone, and n is a time, not below it
 pub data Honours (n : ℕ) (x : In) : Type 0 where
-  asksNothing : ((h : ℕ) → AsksHeight x h → ⊥) → ((t : ℕ) → AsksTime x t → ⊥) → Honours n x
-  byHeight : (h : ℕ) → AsksHeight x h → n < threshold → h ≤ n → Honours n x
-  byTime : (t : ℕ) → AsksTime x t → threshold ≤ n → t ≤ n → Honours n x
+  asksNothing : Lacking (x .height) → Lacking (x .time) → Honours n x
+  byHeight : (h : ℕ) → AsksHeight x h → Lacking (x .time) → n < threshold → h ≤ n → Honours n x
+  byTime : (t : ℕ) → AsksTime x t → Lacking (x .height) → threshold ≤ n → t ≤ n → Honours n x
 
 -- the lock that a transaction's bytes end in
 unfoldable pub lockIn : List ℕ → ℕ
@@ -100,7 +106,11 @@ abbrev pub AllHonoured : ℕ → Reported → Type 0
 AllHonoured n (unfitMap e) = ⊥
 AllHonoured n (reports ins outs) = All (Meets n) ins × All (Honours n) ins
 
--- maps that report a time asked for, and no time that is not below the threshold: the greatest time is too small
+-- a time is asked for, and each time asked for is below the threshold: the greatest time is too small
+abbrev pub FallenTimes : List In → Type 0
+FallenTimes ins = ((t : ℕ) × (i : ℕ) × AskedAt AsksTime t i ins) × EachAsked AsksTime (λ t. t < threshold) ins
+
+-- maps that report inputs whose greatest time is too small
 abbrev pub FallenClock : Reported → Type 0
 FallenClock (unfitMap e) = ⊥
-FallenClock (reports ins outs) = ((t : ℕ) × (i : ℕ) × AskedAt AsksTime t i ins) × EachAsked AsksTime (λ t. t < threshold) ins
+FallenClock (reports ins outs) = FallenTimes ins

@@ -9,3 +9,5 @@ pub mod Prefixes
 pub mod Listings
 pub mod Found
 pub mod Rises
+pub mod Unfit
+pub mod Promised

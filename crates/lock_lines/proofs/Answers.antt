@@ -5,6 +5,7 @@ use Prim.Native.Nat.{ℕ, _≤_, _<_}
 use borrow.Author.Tests.{lt-ltb, le-ltb, eq-eqb, ne-eqb}
 use Rattle.format.specs.Refusals.{numberOf}
 use Rattle.format.specs.declared.PsbtError.{PsbtError}
+use Rattle.format.specs.declared.PsbtError.the-variants.{BadValue}
 use Rattle.format.specs.declared.Maybe.{Maybe}
 use Rattle.format.specs.declared.Numbered.{Numbered}
 use Rattle.format.specs.declared.State.{State}
@@ -12,9 +13,10 @@ use Rattle.format.specs.declared.Lock.{Lock}
 use Rattle.format.specs.declared.UnsignedTx.{UnsignedTx}
 use Rattle.format.specs.declared.UnsignedTx.the-variants as X
 use Rattle.text.specs.Spots.{Spot, lay}
+use Rattle.text.specs.Say.{newline}
 use Rattle.text.specs.Spelled.{decimal}
 use Rattle.text.proofs.Chains.{chain3, chain5}
-use Rattle.reasons.specs.Reasons.{newline, sayThat, meaning}
+use Rattle.reasons.specs.Reasons.{sayThat, meaning}
 use Rattle.reasons.proofs.Meanings.{by-case}
 use Rattle.lock_lines.specs.Lines.{heightNumber, timeNumber, sayNone, lockText, fallbackText, heightText, timeText, sayLack, lackText, sayNoTx, sayTx, sayBytes, txLine, verdict}
 
@@ -46,15 +48,19 @@ module _ (s t : Spot) (n : ℕ) where
 
 pub ruleset lock-numbers = (lock-none, lock-height, lock-time)
 
--- what a transaction lacks
+-- what a transaction lacks: the code asks for a bad value by its number
+bad-value : 7 ≡ numberOf BadValue
+unfolding numberOf
+bad-value = refl
+
 module _ (s t : Spot) (e : PsbtError) (n : ℕ) (q : n ≡ numberOf e) where
   pub lack-field : n ≡ 7 → t ≡ lay s sayLack → t ≡ lay s (lackText e)
   unfolding lackText
-  lack-field h p = p ∙ sym (rw (eq-eqb (numberOf e) 7 (sym q ∙ h)))
+  lack-field h p = p ∙ sym (rw (eq-eqb (numberOf e) (numberOf BadValue) (sym q ∙ h ∙ bad-value)))
 
   pub lack-other : (n ≡ 7 → ⊥) → t ≡ lay s (meaning e) → t ≡ lay s (lackText e)
   unfolding lackText
-  lack-other h p = p ∙ sym (rw (ne-eqb (numberOf e) 7 (λ z. h (q ∙ z))))
+  lack-other h p = p ∙ sym (rw (ne-eqb (numberOf e) (numberOf BadValue) (λ z. h (q ∙ z ∙ sym bad-value))))
 
 pub ruleset lacks = (lack-field, lack-other)
 

@@ -1,11 +1,12 @@
 -- Lines about the lock, in ASCII. A line ends with a newline.
 use Prim.Native.Nat.{ℕ}
-use mathlib.Core.List.{List, [], _∷_, _++_}
+use mathlib.Core.List.{List, _++_}
 use lib.Dec.{ltb, eqb}
 use Rattle.format.specs.Tests.{pick}
 use Rattle.format.specs.Refusals.{numberOf}
 use Rattle.format.specs.Locks.{threshold}
 use Rattle.format.specs.declared.PsbtError.{PsbtError}
+use Rattle.format.specs.declared.PsbtError.the-variants.{BadValue}
 use Rattle.format.specs.declared.Maybe.{Maybe}
 use Rattle.format.specs.declared.Maybe.the-variants.{Absent, Present}
 use Rattle.format.specs.declared.Numbered.{Numbered}
@@ -14,207 +15,124 @@ use Rattle.format.specs.declared.Lock.{Lock}
 use Rattle.format.specs.declared.Lock.the-variants as L
 use Rattle.format.specs.declared.UnsignedTx.{UnsignedTx}
 use Rattle.format.specs.declared.UnsignedTx.the-variants as X
+use Rattle.text.specs.Say.{say, newline}
 use Rattle.text.specs.Spelled.{decimal}
 use Rattle.utc.specs.Dates.{dateText}
-use Rattle.reasons.specs.Reasons.{newline, sayThat, meaning, refusedLine}
+use Rattle.reasons.specs.Reasons.{sayRefused, sayThat, meaning, refusedLine}
 
--- `height `
-abbrev pub sayHeight : List ℕ
-sayHeight = 104 ∷ 101 ∷ 105 ∷ 103 ∷ 104 ∷ 116 ∷ 32 ∷ []
-
--- `height N`
+-- a height
 unfoldable pub heightNumber : ℕ → List ℕ
-heightNumber n = sayHeight ++ decimal n
+heightNumber n = say "height " ++ decimal n
 
--- `time `
-abbrev pub sayTime : List ℕ
-sayTime = 116 ∷ 105 ∷ 109 ∷ 101 ∷ 32 ∷ []
-
--- ` (`
-abbrev pub sayOpen : List ℕ
-sayOpen = 32 ∷ 40 ∷ []
-
--- `)`
-abbrev pub sayClose : List ℕ
-sayClose = 41 ∷ []
-
--- `time N (DATE)`
+-- a time, and the date that it is
 unfoldable pub timeNumber : ℕ → List ℕ
-timeNumber n = sayTime ++ (decimal n ++ (sayOpen ++ (dateText n ++ sayClose)))
+timeNumber n = say "time " ++ (decimal n ++ (say " (" ++ (dateText n ++ say ")")))
 
--- `time 0: none`
+-- the lock number 0
 abbrev pub sayNone : List ℕ
-sayNone = 116 ∷ 105 ∷ 109 ∷ 101 ∷ 32 ∷ 48 ∷ 58 ∷ 32 ∷ 110 ∷ 111 ∷ 110 ∷ 101 ∷ []
+sayNone = say "time 0: none"
 
 -- a lock number as the network reads it: none, a height or a time
 unfoldable pub lockText : ℕ → List ℕ
 lockText n = pick (eqb n 0) sayNone (pick (ltb n threshold) (heightNumber n) (timeNumber n))
 
--- `none`
-abbrev pub sayNoFallback : List ℕ
-sayNoFallback = 110 ∷ 111 ∷ 110 ∷ 101 ∷ []
-
 -- the fallback
 unfoldable pub fallbackText : Maybe → List ℕ
-fallbackText Absent = sayNoFallback
+fallbackText Absent = say "none"
 fallbackText (Present n) = lockText n
 
--- `inputs `
-abbrev pub sayInputs : List ℕ
-sayInputs = 105 ∷ 110 ∷ 112 ∷ 117 ∷ 116 ∷ 115 ∷ 32 ∷ []
-
--- `, fallback `
-abbrev pub sayFallback : List ℕ
-sayFallback = 44 ∷ 32 ∷ 102 ∷ 97 ∷ 108 ∷ 108 ∷ 98 ∷ 97 ∷ 99 ∷ 107 ∷ 32 ∷ []
-
--- `inputs N, fallback ..`
+-- the first line: how many inputs, and the fallback
 unfoldable pub headLine : ℕ → Maybe → List ℕ
-headLine n m = sayInputs ++ (decimal n ++ (sayFallback ++ (fallbackText m ++ newline)))
-
--- `an unreadable height`
-abbrev pub sayBadHeight : List ℕ
-sayBadHeight = 97 ∷ 110 ∷ 32 ∷ 117 ∷ 110 ∷ 114 ∷ 101 ∷ 97 ∷ 100 ∷ 97 ∷ 98 ∷ 108 ∷ 101 ∷ 32 ∷ 104 ∷ 101 ∷ 105 ∷ 103 ∷ 104 ∷ 116 ∷ []
-
--- `no height`
-abbrev pub sayNoHeight : List ℕ
-sayNoHeight = 110 ∷ 111 ∷ 32 ∷ 104 ∷ 101 ∷ 105 ∷ 103 ∷ 104 ∷ 116 ∷ []
+headLine n m = say "inputs " ++ (decimal n ++ (say ", fallback " ++ (fallbackText m ++ newline)))
 
 -- the height that an input asks for
 unfoldable pub heightText : Numbered → List ℕ
-heightText (N.Refused e) = sayBadHeight
-heightText N.Absent = sayNoHeight
+heightText (N.Refused e) = say "an unreadable height"
+heightText N.Absent = say "no height"
 heightText (N.Is n) = heightNumber n
-
--- `an unreadable time`
-abbrev pub sayBadTime : List ℕ
-sayBadTime = 97 ∷ 110 ∷ 32 ∷ 117 ∷ 110 ∷ 114 ∷ 101 ∷ 97 ∷ 100 ∷ 97 ∷ 98 ∷ 108 ∷ 101 ∷ 32 ∷ 116 ∷ 105 ∷ 109 ∷ 101 ∷ []
-
--- `no time`
-abbrev pub sayNoTime : List ℕ
-sayNoTime = 110 ∷ 111 ∷ 32 ∷ 116 ∷ 105 ∷ 109 ∷ 101 ∷ []
 
 -- the time that an input asks for
 unfoldable pub timeText : Numbered → List ℕ
-timeText (N.Refused e) = sayBadTime
-timeText N.Absent = sayNoTime
+timeText (N.Refused e) = say "an unreadable time"
+timeText N.Absent = say "no time"
 timeText (N.Is n) = timeNumber n
 
--- `input `
-abbrev pub sayInput : List ℕ
-sayInput = 105 ∷ 110 ∷ 112 ∷ 117 ∷ 116 ∷ 32 ∷ []
-
--- ` asks `
-abbrev pub sayAsks : List ℕ
-sayAsks = 32 ∷ 97 ∷ 115 ∷ 107 ∷ 115 ∷ 32 ∷ []
-
--- ` and `
-abbrev pub sayAnd : List ℕ
-sayAnd = 32 ∷ 97 ∷ 110 ∷ 100 ∷ 32 ∷ []
+-- an input, by its number
+abbrev pub inputName : ℕ → List ℕ
+inputName i = say "input " ++ decimal i
 
 -- what input number i asks for
 unfoldable pub inputLine : ℕ → Numbered → Numbered → List ℕ
-inputLine i h t = sayInput ++ (decimal i ++ (sayAsks ++ (heightText h ++ (sayAnd ++ (timeText t ++ newline)))))
+inputLine i h t = inputName i ++ (say " asks " ++ (heightText h ++ (say " and " ++ (timeText t ++ newline))))
 
--- `an input has no txid or no index, or an output no amount`
+-- what a refusal for a missing field means once the lock is decided
 abbrev pub sayLack : List ℕ
-sayLack = 97 ∷ 110 ∷ 32 ∷ 105 ∷ 110 ∷ 112 ∷ 117 ∷ 116 ∷ 32 ∷ 104 ∷ 97 ∷ 115 ∷ 32 ∷ 110 ∷ 111 ∷ 32 ∷ 116 ∷ 120 ∷ 105 ∷ 100 ∷ 32 ∷ 111 ∷ 114 ∷ 32 ∷ 110 ∷ 111 ∷ 32 ∷ 105 ∷ 110 ∷ 100 ∷ 101 ∷ 120 ∷ 44 ∷ 32 ∷ 111 ∷ 114 ∷ 32 ∷ 97 ∷ 110 ∷ 32 ∷ 111 ∷ 117 ∷ 116 ∷ 112 ∷ 117 ∷ 116 ∷ 32 ∷ 110 ∷ 111 ∷ 32 ∷ 97 ∷ 109 ∷ 111 ∷ 117 ∷ 110 ∷ 116 ∷ []
+sayLack = say "an input has no txid or no index, or an output no amount"
 
--- what keeps a transaction from being given once the lock is decided: 7 is a missing field then
+-- what keeps a transaction from being given once the lock is decided: a bad value is a missing field then
 unfoldable pub lackText : PsbtError → List ℕ
-lackText e = pick (eqb (numberOf e) 7) sayLack (meaning e)
+lackText e = pick (eqb (numberOf e) (numberOf BadValue)) sayLack (meaning e)
 
--- `no transaction, refused `
+-- before the refusal's number
 abbrev pub sayNoTx : List ℕ
-sayNoTx = 110 ∷ 111 ∷ 32 ∷ 116 ∷ 114 ∷ 97 ∷ 110 ∷ 115 ∷ 97 ∷ 99 ∷ 116 ∷ 105 ∷ 111 ∷ 110 ∷ 44 ∷ 32 ∷ 114 ∷ 101 ∷ 102 ∷ 117 ∷ 115 ∷ 101 ∷ 100 ∷ 32 ∷ []
+sayNoTx = say "no transaction, refused "
 
--- `transaction of `
+-- before the transaction's length
 abbrev pub sayTx : List ℕ
-sayTx = 116 ∷ 114 ∷ 97 ∷ 110 ∷ 115 ∷ 97 ∷ 99 ∷ 116 ∷ 105 ∷ 111 ∷ 110 ∷ 32 ∷ 111 ∷ 102 ∷ 32 ∷ []
+sayTx = say "transaction of "
 
--- ` bytes`, and the end of the line
+-- behind it
 abbrev pub sayBytes : List ℕ
-sayBytes = 32 ∷ 98 ∷ 121 ∷ 116 ∷ 101 ∷ 115 ∷ 10 ∷ []
+sayBytes = say " bytes\n"
 
 -- whether a transaction is given
 unfoldable pub txLine : UnsignedTx → List ℕ
 txLine (X.Refused e) = sayNoTx ++ (decimal (numberOf e) ++ (sayThat ++ (lackText e ++ newline)))
 txLine (X.Written n t) = sayTx ++ (decimal n ++ sayBytes)
 
--- `lock `
-abbrev pub sayLock : List ℕ
-sayLock = 108 ∷ 111 ∷ 99 ∷ 107 ∷ 32 ∷ []
-
 -- the lock time that was decided, and whether a transaction is given
 unfoldable pub outcome : ℕ → UnsignedTx → List ℕ
-outcome n x = sayLock ++ (lockText n ++ (newline ++ txLine x))
-
--- `no input asks for a lock: the fallback decides`, and the end of the line
-abbrev pub sayByFallback : List ℕ
-sayByFallback = 110 ∷ 111 ∷ 32 ∷ 105 ∷ 110 ∷ 112 ∷ 117 ∷ 116 ∷ 32 ∷ 97 ∷ 115 ∷ 107 ∷ 115 ∷ 32 ∷ 102 ∷ 111 ∷ 114 ∷ 32 ∷ 97 ∷ 32 ∷ 108 ∷ 111 ∷ 99 ∷ 107 ∷ 58 ∷ 32 ∷ 116 ∷ 104 ∷ 101 ∷ 32 ∷ 102 ∷ 97 ∷ 108 ∷ 108 ∷ 98 ∷ 97 ∷ 99 ∷ 107 ∷ 32 ∷ 100 ∷ 101 ∷ 99 ∷ 105 ∷ 100 ∷ 101 ∷ 115 ∷ 10 ∷ []
+outcome n x = say "lock " ++ (lockText n ++ (newline ++ txLine x))
 
 -- nothing was asked for
 unfoldable pub fallbackDecided : ℕ → UnsignedTx → List ℕ
-fallbackDecided n x = sayByFallback ++ outcome n x
+fallbackDecided n x = say "no input asks for a lock: the fallback decides\n" ++ outcome n x
 
--- `the greatest height asked decides: input `
-abbrev pub sayByHeight : List ℕ
-sayByHeight = 116 ∷ 104 ∷ 101 ∷ 32 ∷ 103 ∷ 114 ∷ 101 ∷ 97 ∷ 116 ∷ 101 ∷ 115 ∷ 116 ∷ 32 ∷ 104 ∷ 101 ∷ 105 ∷ 103 ∷ 104 ∷ 116 ∷ 32 ∷ 97 ∷ 115 ∷ 107 ∷ 101 ∷ 100 ∷ 32 ∷ 100 ∷ 101 ∷ 99 ∷ 105 ∷ 100 ∷ 101 ∷ 115 ∷ 58 ∷ 32 ∷ 105 ∷ 110 ∷ 112 ∷ 117 ∷ 116 ∷ 32 ∷ []
+-- what input i asked for decided: said so, and the outcome
+abbrev pub decided : List ℕ → ℕ → ℕ → UnsignedTx → List ℕ
+decided says n i x = says ++ (inputName i ++ (newline ++ outcome n x))
 
 -- heights were asked for, the greatest by input i
 unfoldable pub heightDecided : ℕ → ℕ → UnsignedTx → List ℕ
-heightDecided n i x = sayByHeight ++ (decimal i ++ (newline ++ outcome n x))
-
--- `the greatest time asked decides: input `
-abbrev pub sayByTime : List ℕ
-sayByTime = 116 ∷ 104 ∷ 101 ∷ 32 ∷ 103 ∷ 114 ∷ 101 ∷ 97 ∷ 116 ∷ 101 ∷ 115 ∷ 116 ∷ 32 ∷ 116 ∷ 105 ∷ 109 ∷ 101 ∷ 32 ∷ 97 ∷ 115 ∷ 107 ∷ 101 ∷ 100 ∷ 32 ∷ 100 ∷ 101 ∷ 99 ∷ 105 ∷ 100 ∷ 101 ∷ 115 ∷ 58 ∷ 32 ∷ 105 ∷ 110 ∷ 112 ∷ 117 ∷ 116 ∷ 32 ∷ []
+heightDecided n i x = decided (say "the greatest height asked decides: ") n i x
 
 -- times were asked for, the greatest by input i
 unfoldable pub timeDecided : ℕ → ℕ → UnsignedTx → List ℕ
-timeDecided n i x = sayByTime ++ (decimal i ++ (newline ++ outcome n x))
+timeDecided n i x = decided (say "the greatest time asked decides: ") n i x
 
--- ` asks a height and input `
-abbrev pub sayAsksHeight : List ℕ
-sayAsksHeight = 32 ∷ 97 ∷ 115 ∷ 107 ∷ 115 ∷ 32 ∷ 97 ∷ 32 ∷ 104 ∷ 101 ∷ 105 ∷ 103 ∷ 104 ∷ 116 ∷ 32 ∷ 97 ∷ 110 ∷ 100 ∷ 32 ∷ 105 ∷ 110 ∷ 112 ∷ 117 ∷ 116 ∷ 32 ∷ []
-
--- ` asks a time: refused 7`, and the end of the line
-abbrev pub sayAsksTime : List ℕ
-sayAsksTime = 32 ∷ 97 ∷ 115 ∷ 107 ∷ 115 ∷ 32 ∷ 97 ∷ 32 ∷ 116 ∷ 105 ∷ 109 ∷ 101 ∷ 58 ∷ 32 ∷ 114 ∷ 101 ∷ 102 ∷ 117 ∷ 115 ∷ 101 ∷ 100 ∷ 32 ∷ 55 ∷ 10 ∷ []
+-- how a line ends that says why a lock is refused
+abbrev pub refusedEnd : List ℕ
+refusedEnd = sayThat ++ (sayRefused ++ (decimal (numberOf BadValue) ++ newline))
 
 -- both kinds were asked for
 unfoldable pub bothLine : ℕ → ℕ → List ℕ
-bothLine h t = sayInput ++ (decimal h ++ (sayAsksHeight ++ (decimal t ++ sayAsksTime)))
+bothLine h t = inputName h ++ (say " asks a height and " ++ (inputName t ++ (say " asks a time" ++ refusedEnd)))
 
--- ` asks height `
-abbrev pub sayAsksThisHeight : List ℕ
-sayAsksThisHeight = 32 ∷ 97 ∷ 115 ∷ 107 ∷ 115 ∷ 32 ∷ 104 ∷ 101 ∷ 105 ∷ 103 ∷ 104 ∷ 116 ∷ 32 ∷ []
-
--- `, which is not below 500000000 and would be read as a time: refused 7`, and the end of the line
-abbrev pub sayTooGreat : List ℕ
-sayTooGreat = 44 ∷ 32 ∷ 119 ∷ 104 ∷ 105 ∷ 99 ∷ 104 ∷ 32 ∷ 105 ∷ 115 ∷ 32 ∷ 110 ∷ 111 ∷ 116 ∷ 32 ∷ 98 ∷ 101 ∷ 108 ∷ 111 ∷ 119 ∷ 32 ∷ 53 ∷ 48 ∷ 48 ∷ 48 ∷ 48 ∷ 48 ∷ 48 ∷ 48 ∷ 48 ∷ 32 ∷ 97 ∷ 110 ∷ 100 ∷ 32 ∷ 119 ∷ 111 ∷ 117 ∷ 108 ∷ 100 ∷ 32 ∷ 98 ∷ 101 ∷ 32 ∷ 114 ∷ 101 ∷ 97 ∷ 100 ∷ 32 ∷ 97 ∷ 115 ∷ 32 ∷ 97 ∷ 32 ∷ 116 ∷ 105 ∷ 109 ∷ 101 ∷ 58 ∷ 32 ∷ 114 ∷ 101 ∷ 102 ∷ 117 ∷ 115 ∷ 101 ∷ 100 ∷ 32 ∷ 55 ∷ 10 ∷ []
+-- the number that input i asks for would be read as the other kind
+abbrev pub misread : List ℕ → List ℕ → ℕ → ℕ → List ℕ
+misread asks reads n i = inputName i ++ (asks ++ (decimal n ++ (reads ++ refusedEnd)))
 
 -- the greatest height is no height
 unfoldable pub tooGreatLine : ℕ → ℕ → List ℕ
-tooGreatLine n i = sayInput ++ (decimal i ++ (sayAsksThisHeight ++ (decimal n ++ sayTooGreat)))
-
--- ` asks time `
-abbrev pub sayAsksThisTime : List ℕ
-sayAsksThisTime = 32 ∷ 97 ∷ 115 ∷ 107 ∷ 115 ∷ 32 ∷ 116 ∷ 105 ∷ 109 ∷ 101 ∷ 32 ∷ []
-
--- `, which is below 500000000 and would be read as a block height: refused 7`, and the end of the line
-abbrev pub sayTooSmall : List ℕ
-sayTooSmall = 44 ∷ 32 ∷ 119 ∷ 104 ∷ 105 ∷ 99 ∷ 104 ∷ 32 ∷ 105 ∷ 115 ∷ 32 ∷ 98 ∷ 101 ∷ 108 ∷ 111 ∷ 119 ∷ 32 ∷ 53 ∷ 48 ∷ 48 ∷ 48 ∷ 48 ∷ 48 ∷ 48 ∷ 48 ∷ 48 ∷ 32 ∷ 97 ∷ 110 ∷ 100 ∷ 32 ∷ 119 ∷ 111 ∷ 117 ∷ 108 ∷ 100 ∷ 32 ∷ 98 ∷ 101 ∷ 32 ∷ 114 ∷ 101 ∷ 97 ∷ 100 ∷ 32 ∷ 97 ∷ 115 ∷ 32 ∷ 97 ∷ 32 ∷ 98 ∷ 108 ∷ 111 ∷ 99 ∷ 107 ∷ 32 ∷ 104 ∷ 101 ∷ 105 ∷ 103 ∷ 104 ∷ 116 ∷ 58 ∷ 32 ∷ 114 ∷ 101 ∷ 102 ∷ 117 ∷ 115 ∷ 101 ∷ 100 ∷ 32 ∷ 55 ∷ 10 ∷ []
+tooGreatLine n i = misread (say " asks height ") (say ", which is not below " ++ (decimal threshold ++ say " and would be read as a time")) n i
 
 -- the greatest time is no time: a fallen clock
 unfoldable pub tooSmallLine : ℕ → ℕ → List ℕ
-tooSmallLine n i = sayInput ++ (decimal i ++ (sayAsksThisTime ++ (decimal n ++ sayTooSmall)))
-
--- ` asks a height or a time of a wrong length: refused 7`, and the end of the line
-abbrev pub sayMalformed : List ℕ
-sayMalformed = 32 ∷ 97 ∷ 115 ∷ 107 ∷ 115 ∷ 32 ∷ 97 ∷ 32 ∷ 104 ∷ 101 ∷ 105 ∷ 103 ∷ 104 ∷ 116 ∷ 32 ∷ 111 ∷ 114 ∷ 32 ∷ 97 ∷ 32 ∷ 116 ∷ 105 ∷ 109 ∷ 101 ∷ 32 ∷ 111 ∷ 102 ∷ 32 ∷ 97 ∷ 32 ∷ 119 ∷ 114 ∷ 111 ∷ 110 ∷ 103 ∷ 32 ∷ 108 ∷ 101 ∷ 110 ∷ 103 ∷ 116 ∷ 104 ∷ 58 ∷ 32 ∷ 114 ∷ 101 ∷ 102 ∷ 117 ∷ 115 ∷ 101 ∷ 100 ∷ 32 ∷ 55 ∷ 10 ∷ []
+tooSmallLine n i = misread (say " asks time ") (say ", which is below " ++ (decimal threshold ++ say " and would be read as a block height")) n i
 
 -- a lock field of a wrong length
 unfoldable pub malformedLine : ℕ → List ℕ
-malformedLine i = sayInput ++ (decimal i ++ sayMalformed)
+malformedLine i = inputName i ++ (say " asks a height or a time of a wrong length" ++ refusedEnd)
 
 -- the verdict, by what decided the lock; with a lock, the transaction's answer too
 unfoldable pub verdict : Lock → UnsignedTx → List ℕ

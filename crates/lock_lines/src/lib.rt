@@ -11,7 +11,7 @@ use text::put_decimal;
 use utc::put_date;
 ghost use mathlib.Core.Path.{_≡_};
 ghost use Rattle.text.specs.Spots.{spot, lay};
-ghost use Rattle.lock_lines.specs.Lines.{heightNumber, timeNumber, lockText, fallbackText, headLine, heightText, timeText, inputLine, lackText, txLine, outcome, fallbackDecided, heightDecided, timeDecided, bothLine, tooGreatLine, tooSmallLine, malformedLine, verdict};
+ghost use Rattle.lock_lines.specs.Lines.{heightNumber, timeNumber, lockText, fallbackText, headLine, heightText, timeText, inputName, inputLine, lackText, txLine, outcome, fallbackDecided, decided, heightDecided, timeDecided, refusedEnd, bothLine, misread, tooGreatLine, tooSmallLine, malformedLine, verdict};
 
 // A lock number below this is a block height, any other a time.
 const THRESHOLD: u32 = 500_000_000;
@@ -91,12 +91,19 @@ fn put_time(out: &mut [u8], at: usize, t: Numbered) -> usize
     }
 }
 
+// An input, by its number.
+fn put_input_name(out: &mut [u8], at: usize, i: u64) -> usize
+    ensures { λ r. ⌜ spot r (now (out .exit)) ≡ lay (spot at (now (out .entry))) (inputName i) ⌝ }
+{
+    let to = put(out, at, b"input ");
+    put_decimal(out, to, i)
+}
+
 // What input number `i` asks for.
 pub fn put_input(out: &mut [u8], at: usize, i: u64, h: Numbered, t: Numbered) -> usize
     ensures { λ r. ⌜ spot r (now (out .exit)) ≡ lay (spot at (now (out .entry))) (inputLine i h t) ⌝ }
 {
-    let to = put(out, at, b"input ");
-    let to = put_decimal(out, to, i);
+    let to = put_input_name(out, at, i);
     let to = put(out, to, b" asks ");
     let to = put_height(out, to, h);
     let to = put(out, to, b" and ");
@@ -156,49 +163,70 @@ fn put_fallback_decided(out: &mut [u8], at: usize, n: u32, x: UnsignedTx) -> usi
     put_outcome(out, to, n, x)
 }
 
+// What decided, the greatest asked for by input `i`.
+fn put_decided(out: &mut [u8], at: usize, says: &[u8], n: u32, i: u64, x: UnsignedTx) -> usize
+    ensures { λ r. ⌜ spot r (now (out .exit)) ≡ lay (spot at (now (out .entry))) (decided (now (says .entry)) n i x) ⌝ }
+{
+    let to = put(out, at, says);
+    let to = put_input_name(out, to, i);
+    let to = put(out, to, b"\n");
+    put_outcome(out, to, n, x)
+}
+
 // Heights were asked for.
 fn put_height_decided(out: &mut [u8], at: usize, n: u32, i: u64, x: UnsignedTx) -> usize
     ensures { λ r. ⌜ spot r (now (out .exit)) ≡ lay (spot at (now (out .entry))) (heightDecided n i x) ⌝ }
 {
-    let to = put(out, at, b"the greatest height asked decides: input ");
-    let to = put_decimal(out, to, i);
-    let to = put(out, to, b"\n");
-    put_outcome(out, to, n, x)
+    put_decided(out, at, b"the greatest height asked decides: ", n, i, x)
 }
 
 // Times were asked for.
 fn put_time_decided(out: &mut [u8], at: usize, n: u32, i: u64, x: UnsignedTx) -> usize
     ensures { λ r. ⌜ spot r (now (out .exit)) ≡ lay (spot at (now (out .entry))) (timeDecided n i x) ⌝ }
 {
-    let to = put(out, at, b"the greatest time asked decides: input ");
-    let to = put_decimal(out, to, i);
-    let to = put(out, to, b"\n");
-    put_outcome(out, to, n, x)
+    put_decided(out, at, b"the greatest time asked decides: ", n, i, x)
+}
+
+// How a line ends that says why a lock is refused.
+fn put_refused_end(out: &mut [u8], at: usize) -> usize
+    ensures { λ r. ⌜ spot r (now (out .exit)) ≡ lay (spot at (now (out .entry))) refusedEnd ⌝ }
+{
+    put(out, at, b": refused 7\n")
 }
 
 // Both kinds were asked for.
 fn put_both(out: &mut [u8], at: usize, h: u64, t: u64) -> usize
     ensures { λ r. ⌜ spot r (now (out .exit)) ≡ lay (spot at (now (out .entry))) (bothLine h t) ⌝ }
 {
-    let to = put(out, at, b"input ");
-    let to = put_decimal(out, to, h);
-    let to = put(out, to, b" asks a height and input ");
-    let to = put_decimal(out, to, t);
-    put(out, to, b" asks a time: refused 7\n")
+    let to = put_input_name(out, at, h);
+    let to = put(out, to, b" asks a height and ");
+    let to = put_input_name(out, to, t);
+    let to = put(out, to, b" asks a time");
+    put_refused_end(out, to)
+}
+
+// The number that input `i` asks for would be read as the other kind.
+fn put_misread(out: &mut [u8], at: usize, asks: &[u8], reads: &[u8], n: u32, i: u64) -> usize
+    ensures { λ r. ⌜ spot r (now (out .exit)) ≡ lay (spot at (now (out .entry))) (misread (now (asks .entry)) (now (reads .entry)) n i) ⌝ }
+{
+    let to = put_input_name(out, at, i);
+    let to = put(out, to, asks);
+    let to = put_decimal(out, to, n as u64);
+    let to = put(out, to, reads);
+    put_refused_end(out, to)
 }
 
 // The greatest height is none.
 fn put_too_great(out: &mut [u8], at: usize, n: u32, i: u64) -> usize
     ensures { λ r. ⌜ spot r (now (out .exit)) ≡ lay (spot at (now (out .entry))) (tooGreatLine n i) ⌝ }
 {
-    let to = put(out, at, b"input ");
-    let to = put_decimal(out, to, i);
-    let to = put(out, to, b" asks height ");
-    let to = put_decimal(out, to, n as u64);
-    put(
+    put_misread(
         out,
-        to,
-        b", which is not below 500000000 and would be read as a time: refused 7\n",
+        at,
+        b" asks height ",
+        b", which is not below 500000000 and would be read as a time",
+        n,
+        i,
     )
 }
 
@@ -206,14 +234,13 @@ fn put_too_great(out: &mut [u8], at: usize, n: u32, i: u64) -> usize
 fn put_too_small(out: &mut [u8], at: usize, n: u32, i: u64) -> usize
     ensures { λ r. ⌜ spot r (now (out .exit)) ≡ lay (spot at (now (out .entry))) (tooSmallLine n i) ⌝ }
 {
-    let to = put(out, at, b"input ");
-    let to = put_decimal(out, to, i);
-    let to = put(out, to, b" asks time ");
-    let to = put_decimal(out, to, n as u64);
-    put(
+    put_misread(
         out,
-        to,
-        b", which is below 500000000 and would be read as a block height: refused 7\n",
+        at,
+        b" asks time ",
+        b", which is below 500000000 and would be read as a block height",
+        n,
+        i,
     )
 }
 
@@ -221,13 +248,9 @@ fn put_too_small(out: &mut [u8], at: usize, n: u32, i: u64) -> usize
 fn put_malformed(out: &mut [u8], at: usize, i: u64) -> usize
     ensures { λ r. ⌜ spot r (now (out .exit)) ≡ lay (spot at (now (out .entry))) (malformedLine i) ⌝ }
 {
-    let to = put(out, at, b"input ");
-    let to = put_decimal(out, to, i);
-    put(
-        out,
-        to,
-        b" asks a height or a time of a wrong length: refused 7\n",
-    )
+    let to = put_input_name(out, at, i);
+    let to = put(out, to, b" asks a height or a time of a wrong length");
+    put_refused_end(out, to)
 }
 
 // The verdict on the lock, and with it the transaction's answer.

@@ -25,7 +25,7 @@ use Rattle.format.proofs.Told.{parse-out-one}
 use Rattle.laws.specs.Rooms.{pairs#, ended#, Roomy, answer, answerOf}
 use Rattle.laws.specs.Shown.{Accepts, viewBy}
 use Rattle.laws.proofs.Rooms.{room-answers}
-use Rattle.laws.proofs.Parsed.{accepted-is}
+use Rattle.laws.proofs.Promised.{promised-accepts}
 use Rattle.laws.proofs.Shown.{accepted-shows}
 use Rattle.psbt.specs.Leans.{begins, lean, cutLean, mapsRead}
 use Rattle.psbt.specs.Steps.{InLimit}
@@ -94,9 +94,6 @@ unfolding answer
 parse-verdict F P M r P′ M′ h q = ap answer (sym (parse-is F P M r P′ M′ q)) ∙ room-answers F P M h
 
 -- a file that is accepted has a content, and the tables left show exactly that
-pub parse-accepts : (F P M : List ℕ) (s : Psbt) (p m : ℕ) (P′ M′ : List ℕ) → toldWith (toldParsed (A.Accepted s p m)) P′ M′ ≡ toldParse (parsed F P M) → Accepts F P M s p m P′ M′
-parse-accepts F P M s p m P′ M′ q = accepted-is F P M s p m P′ M′ (parse-is F P M (A.Accepted s p m) P′ M′ q)
-
 pub parse-shows : (F P M : List ℕ) (s : Psbt) (p m : ℕ) (P′ M′ : List ℕ) (q : toldWith (toldParsed (A.Accepted s p m)) P′ M′ ≡ toldParse (parsed F P M)) (n : ℕ)
-    → view F P′ M′ s n ≡ viewBy n (mapsOf (parse-accepts F P M s p m P′ M′ q .content))
-parse-shows F P M s p m P′ M′ q n = accepted-shows F P M s p m P′ M′ (parse-accepts F P M s p m P′ M′ q) n
+    → view F P′ M′ s n ≡ viewBy n (mapsOf (promised-accepts F P M s p m P′ M′ q .content))
+parse-shows F P M s p m P′ M′ q n = accepted-shows F P M s p m P′ M′ (promised-accepts F P M s p m P′ M′ q) n

@@ -1,28 +1,24 @@
 -- Laws of text that a case decides, and of a refusal's line.
 use mathlib.Core.Path.{_≡_, refl, sym, _∙_, ap}
-use mathlib.Core.List.{List, [], _∷_, _++_}
+use mathlib.Core.List.{List}
 use Prim.Native.Nat.{ℕ}
 use Rattle.format.specs.Refusals.{numberOf}
 use Rattle.format.specs.declared.PsbtError.{PsbtError}
 use Rattle.format.specs.declared.PsbtError.the-variants.{InvalidMagic, UnexpectedEof, InvalidCompactSize, MapTerminatorMissing, DuplicateKey, UnsortedKeys, BadValue, MissingCounts, MissingOutputIndex, MissingRedeemScript, MissingWitnessScript, CountsTooLarge, NotAllowed, OutOfRange, UnknownOutputType, Unsupported, MissingOutputScript, InvalidSilentPayment, InvalidOutputScripts, InvalidSighashType, TooLong, PairsFull, MapsFull, BadIndex, NoRoom}
 use Rattle.text.specs.Spots.{Spot, lay}
-use Rattle.text.specs.Spelled.{decimal}
+use Rattle.text.specs.Say.{newline, lines}
+use Rattle.text.specs.Spelled.{digit, decimalIn, decimal}
 use Rattle.text.proofs.Chains.{chain5}
 use Rattle.reasons.specs.Rows.{front, rest, behind, line}
-use Rattle.reasons.specs.Reasons.{newline, sayRefused, sayThat, meanings, meaning, refusedLine}
+use Rattle.reasons.specs.Reasons.{sayRefused, sayThat, meanings, meaning, refusedLine}
 
 -- text that a case decides, by the text of that case
 pub by-case : {A : Type 0} (say : A → List ℕ) (s t : Spot) (x y : A) (b : List ℕ) → x ≡ y → b ≡ say y → t ≡ lay s b → t ≡ lay s (say x)
 by-case say s t x y b e q h = h ∙ ap (lay s) (q ∙ sym (ap say e))
 
--- texts as lines, as the code has them
-abbrev joined : List (List ℕ) → List ℕ
-joined [] = []
-joined (t ∷ ts) = t ++ (10 ∷ joined ts)
-
 -- the line with a refusal's number is what it means
-in-lines : (e : PsbtError) → line (numberOf e) (joined meanings) ≡ meaning e
-unfolding line front rest behind meaning numberOf
+in-lines : (e : PsbtError) → line (numberOf e) (lines meanings) ≡ meaning e
+unfolding digit decimalIn decimal line front rest behind meaning numberOf
 in-lines InvalidMagic = refl
 in-lines UnexpectedEof = refl
 in-lines InvalidCompactSize = refl
@@ -50,8 +46,8 @@ in-lines BadIndex = refl
 in-lines NoRoom = refl
 
 -- so what is put of that line is what the refusal means
-pub meaning-by : (s t : Spot) (e : PsbtError) (n : ℕ) (b : List ℕ) → n ≡ numberOf e → b ≡ line n (joined meanings) → t ≡ lay s b → t ≡ lay s (meaning e)
-meaning-by s t e n b q l h = h ∙ ap (lay s) (l ∙ ap (λ (m : ℕ). line m (joined meanings)) q ∙ in-lines e)
+pub meaning-by : (s t : Spot) (e : PsbtError) (n : ℕ) (b : List ℕ) → n ≡ numberOf e → b ≡ line n (lines meanings) → t ≡ lay s b → t ≡ lay s (meaning e)
+meaning-by s t e n b q l h = h ∙ ap (lay s) (l ∙ ap (λ (m : ℕ). line m (lines meanings)) q ∙ in-lines e)
 
 -- a refusal's line, by its number
 pub refused-line : (s t₁ t₂ t₃ t₄ t₅ : Spot) (e : PsbtError) (n : ℕ) → n ≡ numberOf e → t₁ ≡ lay s sayRefused → t₂ ≡ lay t₁ (decimal n) → t₃ ≡ lay t₂ sayThat → t₄ ≡ lay t₃ (meaning e) → t₅ ≡ lay t₄ newline

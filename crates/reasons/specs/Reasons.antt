@@ -4,12 +4,9 @@ use Prim.Native.Nat.{ℕ}
 use lib.ListN.{getD}
 use Rattle.format.specs.Refusals.{numberOf}
 use Rattle.format.specs.declared.PsbtError.{PsbtError}
-use Rattle.text.specs.Say.{say}
+use Rattle.text.specs.Say.{say, newline}
 use Rattle.text.specs.Spelled.{decimal}
-
--- the end of a line
-abbrev pub newline : List ℕ
-newline = say "\n"
+use Rattle.text.specs.Limits.{longest, mostPairs, mostMaps}
 
 -- what refusals mean, in words, in the order of their numbers; none has the number 0
 abbrev pub meanings : List (List ℕ)
@@ -35,9 +32,9 @@ meanings =
     ∷ say "a silent payment breaks its rules"
     ∷ say "the scripts set do not fit"
     ∷ say "a reason not in use"
-    ∷ say "the file is longer than 65536 bytes"
-    ∷ say "the file has more than 1024 pairs"
-    ∷ say "the file has more than 256 maps"
+    ∷ (say "the file is longer than " ++ (decimal longest ++ say " bytes"))
+    ∷ (say "the file has more than " ++ (decimal mostPairs ++ say " pairs"))
+    ∷ (say "the file has more than " ++ (decimal mostMaps ++ say " maps"))
     ∷ say "a table does not fit the file"
     ∷ say "the transaction is too long"
     ∷ []
@@ -46,14 +43,14 @@ meanings =
 unfoldable pub meaning : PsbtError → List ℕ
 meaning e = getD meanings (numberOf e) []
 
--- `refused `
+-- before a refusal's number
 abbrev pub sayRefused : List ℕ
 sayRefused = say "refused "
 
--- `: `
+-- before what it means
 abbrev pub sayThat : List ℕ
 sayThat = say ": "
 
--- `refused N: ..`
+-- a refusal's line: its number and what it means
 unfoldable pub refusedLine : PsbtError → List ℕ
 refusedLine e = sayRefused ++ (decimal (numberOf e) ++ (sayThat ++ (meaning e ++ newline)))

@@ -5,16 +5,17 @@ use Prim.Native.Nat.{ℕ, zero, suc, _≤_}
 use lib.Dec.{eqb}
 use lib.ListN.{length, take, drop}
 use Rattle.format.specs.Tests.{pick}
+use Rattle.text.specs.Say.{lineEnd}
 
 -- the first line of a text, without its end
 unfoldable pub front : List ℕ → List ℕ
 front [] = []
-front (b ∷ s) = pick (eqb b 10) [] (b ∷ front s)
+front (b ∷ s) = pick (eqb b lineEnd) [] (b ∷ front s)
 
 -- what stands behind the first line
 unfoldable pub rest : List ℕ → List ℕ
 rest [] = []
-rest (b ∷ s) = pick (eqb b 10) s (rest s)
+rest (b ∷ s) = pick (eqb b lineEnd) s (rest s)
 
 -- what stands behind the first n lines
 unfoldable pub behind : ℕ → List ℕ → List ℕ

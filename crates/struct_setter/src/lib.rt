@@ -18,7 +18,7 @@ ghost use Rattle.struct_setter.specs.Names.{namedBy, namesAfter, servedB
 ghost use Rattle.struct_setter.specs.Turns.{begun, going, answerOf, allowedToo, noted, tallied, writing, serving, afterServe, turned, turnOf, Due};
 
 // How often an output is named: never, once, or more often, and by which assignment first.
-pub enum Names {
+enum Names {
     Nobody,
     Once(Assignment),
     Again(Assignment),
@@ -26,7 +26,7 @@ pub enum Names {
 
 // What is asked of the list: whether each record is right by itself, whether an output is served, which script an output
 // gets; or nothing more.
-pub enum Task {
+enum Task {
     Check(bool),
     Serve { output: u64, names: Names },
     Write { output: u64, names: Names },
@@ -71,7 +71,7 @@ fn allowed_too(ok: bool, outputs: u64, buffer: &[u8], a: Assignment) -> bool
 }
 
 // What one record answers.
-pub fn note(buffer: &[u8], psbt: Psbt, task: Task, a: Assignment) -> Task
+fn note(buffer: &[u8], psbt: Psbt, task: Task, a: Assignment) -> Task
     ensures { λ r. ⌜ r ≡ noted (now (buffer .entry)) (psbt .outputs) task a ⌝ }
 {
     match task {
@@ -109,7 +109,7 @@ pub fn note(buffer: &[u8], psbt: Psbt, task: Task, a: Assignment) -> Task
 }
 
 // What all records answer. Proved by hand.
-pub fn tally(list: &[Assignment], buffer: &[u8], psbt: Psbt, task: Task) -> Task
+fn tally(list: &[Assignment], buffer: &[u8], psbt: Psbt, task: Task) -> Task
     ensures { λ r. ⌜ r ≡ tallied (now (buffer .entry)) (psbt .outputs) task (now (list .entry)) ⌝ }
 {
     let mut t = task;
@@ -122,7 +122,7 @@ pub fn tally(list: &[Assignment], buffer: &[u8], psbt: Psbt, task: Task) -> Task
 }
 
 // The first question, where all maps are fit and scripts may still be set.
-pub fn begin(file: &[u8], pairs: &[u32], maps: &[u32], psbt: Psbt, state: State) -> Task
+fn begin(file: &[u8], pairs: &[u32], maps: &[u32], psbt: Psbt, state: State) -> Task
     ensures { λ r. ⌜ r ≡ begun state (ruledBy (gather (view (now (file .entry)) (now (pairs .entry)) (now (maps .entry)) psbt) 0 (mapsReported psbt))) ⌝ }
 {
     match all_maps::all_fit(file, pairs, maps, psbt) {
@@ -140,7 +140,7 @@ pub fn begin(file: &[u8], pairs: &[u32], maps: &[u32], psbt: Psbt, state: State)
 }
 
 // Something is left to be asked.
-pub fn is_going(task: Task) -> bool
+fn is_going(task: Task) -> bool
     ensures { λ r. ⌜ r ≡ going task ⌝ }
 {
     match task {
@@ -158,7 +158,7 @@ pub fn is_going(task: Task) -> bool
 }
 
 // The answer, once nothing is.
-pub fn answer_of(task: Task) -> ScriptsSet
+fn answer_of(task: Task) -> ScriptsSet
     ensures { λ r. ⌜ r ≡ answerOf task ⌝ }
 {
     match task {
@@ -261,7 +261,7 @@ fn put_named(table: &mut [u8], i: u64, names: Names, buffer: &[u8])
 }
 
 // What is done with the list's answer, and the next question.
-pub fn turn(
+fn turn(
     file: &[u8],
     pairs: &[u32],
     maps: &[u32],

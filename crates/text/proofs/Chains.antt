@@ -18,8 +18,6 @@ pub chain5 : (s t₁ t₂ t₃ t₄ t₅ : Spot) (w a b c d f : List ℕ) → t�
     → t₅ ≡ lay s w
 chain5 s t₁ t₂ t₃ t₄ t₅ w a b c d f p₁ p₂ p₃ p₄ p₅ e = chain4 s t₁ t₂ t₃ t₅ w a b c (d ++ f) p₁ p₂ p₃ (lay-then _ _ _ _ _ p₄ p₅) e
 
-pub chain7 : (s t₁ t₂ t₃ t₄ t₅ t₆ t₇ : Spot) (w a b c d f g h : List ℕ)
-    → t₁ ≡ lay s a → t₂ ≡ lay t₁ b → t₃ ≡ lay t₂ c → t₄ ≡ lay t₃ d → t₅ ≡ lay t₄ f → t₆ ≡ lay t₅ g → t₇ ≡ lay t₆ h → w ≡ a ++ (b ++ (c ++ (d ++ (f ++ (g ++ h)))))
-    → t₇ ≡ lay s w
-chain7 s t₁ t₂ t₃ t₄ t₅ t₆ t₇ w a b c d f g h p₁ p₂ p₃ p₄ p₅ p₆ p₇ e =
-    chain5 s t₁ t₂ t₃ t₄ t₇ w a b c d (f ++ (g ++ h)) p₁ p₂ p₃ p₄ (lay-then _ _ _ _ _ p₅ (lay-then _ _ _ _ _ p₆ p₇)) e
+pub chain6 : (s t₁ t₂ t₃ t₄ t₅ t₆ : Spot) (w a b c d f g : List ℕ) → t₁ ≡ lay s a → t₂ ≡ lay t₁ b → t₃ ≡ lay t₂ c → t₄ ≡ lay t₃ d → t₅ ≡ lay t₄ f → t₆ ≡ lay t₅ g
+    → w ≡ a ++ (b ++ (c ++ (d ++ (f ++ g)))) → t₆ ≡ lay s w
+chain6 s t₁ t₂ t₃ t₄ t₅ t₆ w a b c d f g p₁ p₂ p₃ p₄ p₅ p₆ e = chain5 s t₁ t₂ t₃ t₄ t₆ w a b c d (f ++ g) p₁ p₂ p₃ p₄ (lay-then _ _ _ _ _ p₅ p₆) e

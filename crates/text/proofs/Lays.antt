@@ -10,8 +10,8 @@ use borrow.Author.Tests.{lt-ltb, le-ltb, ltb-true}
 use lib.Dec.{ltb}
 use lib.IntN.{ℤ, pos, negsuc}
 use lib.Signed.{ltZ}
-use lib.ListN.{length, getD, take, drop, set, length-set, drop-of-length-le}
-use lib.Seq.{drop-cons}
+use lib.ListN.{length, getD, take, drop, set, length-set, length-append, drop-of-length-le}
+use lib.Seq.{drop-cons, sets-eq, take-append-seam}
 use mir.Syntax.{w32, w64}
 use mir.Val.{Fits, SFits, toZ, ofZ}
 use mir.Facts.{toZ-ofZ}
@@ -42,6 +42,25 @@ lay-whole at D (b ∷ S) h =
     let l : at + 1 + length S ≤ length (set D at b) = rw (length-set D at b) (omega arith) in
     let e : at + 1 + length S ≡ at + suc (length S) = omega arith in
     rw (lt-ltb at (length D) q) (lay-whole (at + 1) (set D at b) S l ∙ ap₂ (λ (n m : ℕ). spot n (wrote (set D at b) m S)) e (add-one at))
+
+-- so at the front of a buffer of n bytes or more, which then begins with a text of at most n
+module _ (n r : ℕ) (D D′ S : List ℕ) (is : spot r D′ ≡ lay (spot 0 D) S) (fits : length S ≤ n) (h : n ≤ length D) where
+  front-is : (r ≡ length S) × (D′ ≡ S ++ drop (0 + length S) D)
+  unfolding wrote
+  front-is =
+      let k : 0 + length S ≤ length D = omega arith in
+      let e : spot r D′ ≡ spot (0 + length S) (wrote D 0 S) = is ∙ lay-whole 0 D S k in
+      let m : r ≡ 0 + length S = cc in
+      let d : D′ ≡ wrote D 0 S = cc in
+      (omega arith, d ∙ sets-eq S D 0 k)
+
+  pub front-ends : r ≤ length D′
+  front-ends = rw (front-is .0, front-is .1) (simp length-append (omega arith))
+
+  pub front-whole : take r D′ ≡ S
+  front-whole = rw (front-is .0, front-is .1) (take-append-seam S (drop (0 + length S) D))
+
+pub ruleset fronts = (front-ends, front-whole)
 
 -- both ways of `put_byte`
 module _ (at : ℕ) (D : List ℕ) (b : ℕ) where

@@ -1,3 +1,4 @@
 pub mod Lays
 pub mod Chains
 pub mod Rooms
+pub mod Sizes

@@ -3,22 +3,28 @@ use mathlib.Core.Path.{_≡_, refl}
 use mathlib.Core.List.{[], _∷_, map}
 use lib.IntN.{pos, negsuc}
 use Rattle.text.specs.Spots.{spot, layByte, lay}
+use Rattle.text.specs.Say.{say}
 use Rattle.text.specs.Spelled.{digit, hexByte, hex, hexOrDash, decimalIn, decimal, signedDecimal}
 
--- 00, 9a, f0 is `009af0`; no byte is `-`
-pub hex-example : map hexOrDash ((0x00 ∷ 0x9a ∷ 0xf0 ∷ []) ∷ [] ∷ []) ≡ (48 ∷ 48 ∷ 57 ∷ 97 ∷ 102 ∷ 48 ∷ []) ∷ (45 ∷ []) ∷ []
+-- the digits
+pub digit-example : map digit (0 ∷ 1 ∷ 2 ∷ 3 ∷ 4 ∷ 5 ∷ 6 ∷ 7 ∷ 8 ∷ 9 ∷ 10 ∷ 11 ∷ 12 ∷ 13 ∷ 14 ∷ 15 ∷ []) ≡ say "0123456789abcdef"
+unfolding digit
+digit-example = refl
+
+-- bytes and no byte
+pub hex-example : map hexOrDash ((0x00 ∷ 0x9a ∷ 0xf0 ∷ []) ∷ [] ∷ []) ≡ say "009af0" ∷ say "-" ∷ []
 unfolding digit hexByte hex hexOrDash
 hex-example = refl
 
--- `0`, `10`, `18446744073709551615`
+-- numbers: the least, one of two digits, the greatest
 pub decimal-example : map decimal (0 ∷ 10 ∷ 0xffff_ffff_ffff_ffff ∷ [])
-    ≡ (48 ∷ []) ∷ (49 ∷ 48 ∷ []) ∷ (49 ∷ 56 ∷ 52 ∷ 52 ∷ 54 ∷ 55 ∷ 52 ∷ 52 ∷ 48 ∷ 55 ∷ 51 ∷ 55 ∷ 48 ∷ 57 ∷ 53 ∷ 53 ∷ 49 ∷ 54 ∷ 49 ∷ 53 ∷ []) ∷ []
+    ≡ say "0" ∷ say "10" ∷ say "18446744073709551615" ∷ []
 unfolding digit decimalIn decimal
 decimal-example = refl
 
--- `2`, `-1`, `-2147483648`
+-- numbers that may be negative
 pub signed-example : map signedDecimal (pos 2 ∷ negsuc 0 ∷ negsuc 2147483647 ∷ [])
-    ≡ (50 ∷ []) ∷ (45 ∷ 49 ∷ []) ∷ (45 ∷ 50 ∷ 49 ∷ 52 ∷ 55 ∷ 52 ∷ 56 ∷ 51 ∷ 54 ∷ 52 ∷ 56 ∷ []) ∷ []
+    ≡ say "2" ∷ say "-1" ∷ say "-2147483648" ∷ []
 unfolding digit decimalIn decimal signedDecimal
 signed-example = refl
 

@@ -1,4 +1,5 @@
 pub mod Spots
 pub mod Say
 pub mod Spelled
+pub mod Limits
 pub mod Examples

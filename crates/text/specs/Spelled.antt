@@ -1,5 +1,6 @@
 -- Bytes and numbers as text, in ASCII.
-use Prim.Native.Nat.{ℕ, zero, suc, _+_, _/_, _%_}
+use Prim.Native.Nat.{ℕ, zero, suc, _+_, _-_, _/_, _%_}
+use Prim.Native.Char.{code}
 use mathlib.Core.List.{List, [], _∷_, _++_}
 use lib.Dec.{ltb}
 use lib.IntN.{ℤ, pos, negsuc}
@@ -7,7 +8,7 @@ use Rattle.format.specs.Tests.{pick}
 
 -- a digit below 16: `0` to `9`, then `a` to `f`
 unfoldable pub digit : ℕ → ℕ
-digit d = pick (ltb d 10) (48 + d) (87 + d)
+digit d = pick (ltb d 10) (code "0" + d) (code "a" - 10 + d)
 
 -- a byte in two hex digits, the higher first
 unfoldable pub hexByte : ℕ → List ℕ
@@ -18,11 +19,11 @@ unfoldable pub hex : List ℕ → List ℕ
 hex [] = []
 hex (b ∷ bs) = hexByte b ++ hex bs
 
--- `-`
+-- a minus sign, and what stands for no bytes
 abbrev pub dash : ℕ
-dash = 45
+dash = code "-"
 
--- bytes in hex, `-` where there are none
+-- bytes in hex, a dash where there are none
 unfoldable pub hexOrDash : List ℕ → List ℕ
 hexOrDash [] = dash ∷ []
 hexOrDash (b ∷ bs) = hex (b ∷ bs)

@@ -1,2 +1,3 @@
 pub mod Stands
 pub mod Pieces
+pub mod Sizes

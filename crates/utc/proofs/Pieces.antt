@@ -5,10 +5,11 @@ use Prim.Native.Nat.{ℕ, _<_, _≤_}
 use borrow.Author.Tests.{lt-ltb, le-ltb, eq-eqb, ne-eqb}
 use Rattle.format.proofs.Tests.{pick-yes, pick-no}
 use Rattle.text.specs.Spots.{Spot, lay}
+use Rattle.text.specs.Say.{say}
 use Rattle.text.specs.Spelled.{decimal}
 use Rattle.text.proofs.Lays.{lay-then}
 use Rattle.utc.specs.declared.Stand.{Stand}
-use Rattle.utc.specs.Dates.{leap, yearLength, isShort, monthLength, yearOf, monthOf, zeroDigit, twoDigits, ymdText, monthText, dayText}
+use Rattle.utc.specs.Dates.{leap, yearLength, isShort, monthLength, yearOf, monthOf, twoDigits, ymdText, monthText, dayText}
 
 -- the lengths of years and months, by what was asked of them
 pub year-long : (y : ℕ) (b : Bool) → b ≡ leap y → b ≡ true → 366 ≡ yearLength y
@@ -40,7 +41,7 @@ month-plain y m b e q h = sym (rw (ne-eqb m 2 e) (pick-no (isShort m) 30 31 (sym
 pub ruleset month-lengths = (february-long, february-plain, month-short, month-plain)
 
 -- one digit, or more
-pub two-one : (s t₁ t₂ : Spot) (n : ℕ) → n < 10 → t₁ ≡ lay s zeroDigit → t₂ ≡ lay t₁ (decimal n) → t₂ ≡ lay s (twoDigits n)
+pub two-one : (s t₁ t₂ : Spot) (n : ℕ) → n < 10 → t₁ ≡ lay s (say "0") → t₂ ≡ lay t₁ (decimal n) → t₂ ≡ lay s (twoDigits n)
 unfolding twoDigits
 two-one s t₁ t₂ n h a b = rw (lt-ltb n 10 h) (lay-then _ _ _ _ _ a b)
 

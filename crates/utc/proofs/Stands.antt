@@ -12,7 +12,7 @@ use Rattle.utc.specs.Dates.{leap, yearLength, monthLength, yearFrom, yea
 abbrev stand : ℕ → ℕ → Stand
 stand n d = record { number = n; day = d }
 
-year-least : (y : ℕ) → 365 ≤ yearLength y
+pub year-least : (y : ℕ) → 365 ≤ yearLength y
 unfolding yearLength
 year-least y = pick-by (λ (n : ℕ). 365 ≤ n) (leap y) 366 365 (λ h. omega arith) (λ h. omega arith)
 

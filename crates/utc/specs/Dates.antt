@@ -1,9 +1,10 @@
 -- The UTC date of seconds since the start of 1970, by the leap rule, as text in ASCII.
 use Prim.Native.Nat.{ℕ, zero, suc, _+_, _-_, _/_, _%_}
 use mathlib.Core.Bool.{Bool, true, false}
-use mathlib.Core.List.{List, [], _∷_, _++_}
+use mathlib.Core.List.{List, _++_}
 use lib.Dec.{leb, ltb, eqb}
 use Rattle.format.specs.Tests.{pick}
+use Rattle.text.specs.Say.{say}
 use Rattle.text.specs.Spelled.{decimal}
 use Rattle.utc.specs.declared.Stand.{Stand}
 
@@ -41,33 +42,13 @@ monthFrom y (suc n) m d = pick (leb d (monthLength y m)) (record { number = m; d
 unfoldable pub monthOf : ℕ → ℕ → Stand
 monthOf y d = monthFrom y 11 1 d
 
--- `0`
-abbrev pub zeroDigit : List ℕ
-zeroDigit = 48 ∷ []
-
--- `-`
-abbrev pub hyphen : List ℕ
-hyphen = 45 ∷ []
-
--- `:`
-abbrev pub colon : List ℕ
-colon = 58 ∷ []
-
--- a space
-abbrev pub gap : List ℕ
-gap = 32 ∷ []
-
--- ` UTC`
-abbrev pub sayUtc : List ℕ
-sayUtc = 32 ∷ 85 ∷ 84 ∷ 67 ∷ []
-
 -- a number in two digits or more
 unfoldable pub twoDigits : ℕ → List ℕ
-twoDigits n = pick (ltb n 10) (zeroDigit ++ decimal n) (decimal n)
+twoDigits n = pick (ltb n 10) (say "0" ++ decimal n) (decimal n)
 
--- `1970-01-01`
+-- year, month and day, as 1970-01-01
 unfoldable pub ymdText : ℕ → ℕ → ℕ → List ℕ
-ymdText y m d = decimal y ++ (hyphen ++ (twoDigits m ++ (hyphen ++ twoDigits d)))
+ymdText y m d = decimal y ++ (say "-" ++ (twoDigits m ++ (say "-" ++ twoDigits d)))
 
 -- the same of day d of a year, and of day d counted from 1 at the start of 1970
 unfoldable pub monthText : ℕ → Stand → List ℕ
@@ -76,10 +57,10 @@ monthText y m = ymdText y (m .number) (m .day)
 unfoldable pub dayText : ℕ → List ℕ
 dayText d = monthText (yearOf d .number) (monthOf (yearOf d .number) (yearOf d .day))
 
--- `00:00:00`
+-- hour, minute and second, as 00:00:00
 unfoldable pub hourText : ℕ → List ℕ
-hourText s = twoDigits (s / 3600 % 24) ++ (colon ++ (twoDigits (s / 60 % 60) ++ (colon ++ twoDigits (s % 60))))
+hourText s = twoDigits (s / 3600 % 24) ++ (say ":" ++ (twoDigits (s / 60 % 60) ++ (say ":" ++ twoDigits (s % 60))))
 
--- `1970-01-01 00:00:00 UTC`
+-- the date, as 1970-01-01 00:00:00 UTC
 unfoldable pub dateText : ℕ → List ℕ
-dateText s = dayText (s / 86400 + 1) ++ (gap ++ (hourText s ++ sayUtc))
+dateText s = dayText (s / 86400 + 1) ++ (say " " ++ (hourText s ++ say " UTC"))

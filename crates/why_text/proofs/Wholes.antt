@@ -21,7 +21,8 @@ use Rattle.format.specs.declared.Parsed.the-variants.{Accepted, Refused}
 use Rattle.format.proofs.Told.{numbered-one, lock-one, parse-out-one, tx-out-one}
 use Rattle.text.specs.Spots.{Spot, spot, lay}
 use Rattle.text.proofs.Lays.{lay-then}
-use Rattle.dump_text.specs.Dump.{zeros, fresh}
+use Rattle.text.specs.Limits.{longest}
+use Rattle.dump_text.specs.Dump.{pairRoom, mapRoom, txRoom, fresh}
 use Rattle.reasons.specs.Reasons.{refusedLine}
 use Rattle.lock_lines.specs.Lines.{headLine, inputLine, verdict}
 use Rattle.why_text.specs.Why.{heightAsked, timeAsked, inputsText, answered, acceptedText, parsedText, whyIn, why}
@@ -87,12 +88,12 @@ pub ruleset by-parse = (parsed-refused, parsed-accepted)
 
 -- by the file's length
 module _ (s t : Spot) (f : List ℕ) where
-  pub why-long : 65536 < length f → t ≡ lay s (refusedLine TooLong) → t ≡ lay s (why f)
+  pub why-long : longest < length f → t ≡ lay s (refusedLine TooLong) → t ≡ lay s (why f)
   unfolding why
-  why-long h e = e ∙ sym (rw (lt-ltb 65536 (length f) h))
+  why-long h e = e ∙ sym (rw (lt-ltb longest (length f) h))
 
-  pub why-short : length f ≤ 65536 → (P M B : List ℕ) → P ≡ zeros 4096 → M ≡ zeros 512 → B ≡ zeros 65536 → t ≡ lay s (whyIn P M B f) → t ≡ lay s (why f)
+  pub why-short : length f ≤ longest → (P M B : List ℕ) → P ≡ pairRoom → M ≡ mapRoom → B ≡ txRoom → t ≡ lay s (whyIn P M B f) → t ≡ lay s (why f)
   unfolding why
-  why-short h P M B p m b e = e ∙ rw (p, m, b) (sym (rw (le-ltb 65536 (length f) h)))
+  why-short h P M B p m b e = e ∙ rw (p, m, b) (sym (rw (le-ltb longest (length f) h)))
 
 pub ruleset by-length = (why-long, why-short)

@@ -13,7 +13,8 @@ use Rattle.format.specs.declared.Psbt.{Psbt}
 use Rattle.format.specs.declared.Numbered.{Numbered}
 use Rattle.format.specs.declared.UnsignedTx.{UnsignedTx}
 use Rattle.format.specs.declared.Parsed.the-variants.{Accepted, Refused}
-use Rattle.dump_text.specs.Dump.{zeros, fresh}
+use Rattle.text.specs.Limits.{longest}
+use Rattle.dump_text.specs.Dump.{pairRoom, mapRoom, txRoom, fresh}
 use Rattle.reasons.specs.Reasons.{refusedLine}
 use Rattle.lock_lines.specs.Lines.{headLine, inputLine, verdict}
 
@@ -51,4 +52,4 @@ whyIn P M B f = parsedText B f (parsed f P M)
 
 -- the text of a file: room for 1,024 pairs, 256 maps and 65,536 transaction bytes; a file above 65,536 bytes is too long
 unfoldable pub why : List ℕ → List ℕ
-why f = pick (ltb 65536 (length f)) (refusedLine TooLong) (whyIn (zeros 4096) (zeros 512) (zeros 65536) f)
+why f = pick (ltb longest (length f)) (refusedLine TooLong) (whyIn pairRoom mapRoom txRoom f)

@@ -3,7 +3,6 @@ use dump_text::file_room;
 use dump_text::map_room;
 use dump_text::pair_room;
 use dump_text::tx_room;
-use dump_text::write_text;
 use format::Parsed;
 use format::Psbt;
 use format::PsbtError;
@@ -15,7 +14,8 @@ use reasons::put_refused;
 use typed::input::required_height_locktime;
 use typed::input::required_time_locktime;
 ghost use mathlib.Core.Path.{_≡_};
-ghost use lib.ListN.{length};
+ghost use Prim.Native.Nat.{_≤_};
+ghost use lib.ListN.{length, take};
 ghost use Rattle.text.specs.Spots.{spot, lay};
 ghost use Rattle.why_text.specs.Why.{heightAsked, timeAsked, inputsText, acceptedText, whyIn, why};
 
@@ -106,12 +106,20 @@ pub fn put_why(out: &mut [u8], at: usize, file: &[u8]) -> usize
     put_parsed(out, at, file, &mut pairs, &mut maps, &mut tx)
 }
 
-// Room for every text. An input's line takes at most 79 bytes (20,145 for 255 inputs), the lines before and behind
-// them at most 63, 48, 47 and 90.
-fn text_room() -> [u8; 20480]
-    ensures { λ r. ⌜ 20480 ≡ length r ⌝ }
+// Room for every text: none is longer (`why-fits`).
+fn text_room() -> [u8; 30720]
+    ensures { λ r. ⌜ 30720 ≡ length r ⌝ }
 {
-    [0; 20480]
+    [0; 30720]
+}
+
+// Puts the text of a file at the front of a room for every text, where it stands whole, and answers its end.
+fn put_whole(out: &mut [u8], file: &[u8]) -> usize
+    requires { ⌜ 30720 ≤ length (now out) ⌝ }
+    ensures { λ r. ⌜ r ≤ length (now (out .exit)) ⌝ }
+    ensures { λ r. ⌜ take r (now (out .exit)) ≡ why (now (file .entry)) ⌝ }
+{
+    put_why(out, 0, file)
 }
 
 // Reads a file from one descriptor, until it ends or is too long, and writes its text to another.
@@ -119,6 +127,6 @@ pub fn why_input(from: i32, to: i32) -> bool {
     let mut file = file_room();
     let mut out = text_room();
     let got = io::read_full(from, &mut file);
-    let end = put_why(&mut out, 0, &file[..got]);
-    write_text(to, &out, end)
+    let end = put_whole(&mut out, &file[..got]);
+    io::write_all(to, &out[..end])
 }

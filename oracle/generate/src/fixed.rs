@@ -407,6 +407,15 @@ fn memories<W: Write>(sink: &mut Sink<W>) -> io::Result<()> {
         group.room(OUT, 20);
         asked(group)?;
     }
+    // E with version 3, which is refused; then with the words of that refusal as the report, and with other counts of values.
+    let refused = maps(&[&[TX, "01040100", "01050100", "01fb0403000000"]]);
+    asked(parsed(&refused))?;
+    for first in [2, 0, 6, 7, 8, 7 << 32, u64::MAX] {
+        let mut group = parsed(&refused);
+        group.numbers(REPORT, &[first, 4, 1, 0, 0, 0, 0, 0]);
+        group.room(OUT, 20);
+        asked(group)?;
+    }
     let mut group = parsed(&rich());
     for form in 0..4 {
         group.ask_in_form(calls::NTH, &[0, 3], form);

@@ -177,7 +177,7 @@ impl Body {
 fn spoil(random: &mut Random, body: &mut Body) -> &'static str {
     let length = body.file.len();
     let at = |random: &mut Random, n: usize| random.below(n as u64) as usize;
-    match random.below(17) {
+    match random.below(18) {
         0..=2 if !body.pairs.is_empty() => {
             let i = at(random, body.pairs.len());
             body.pairs[i] = strange_word(random, body.pairs[i], length);
@@ -272,6 +272,15 @@ fn spoil(random: &mut Random, body: &mut Body) -> &'static str {
             let at = random.between(1, 3);
             body.report[at] = random.pick(&[0, u64::MAX, u64::MAX - 1, 1 << 32, any]);
             "a report"
+        }
+        16 => {
+            // The words of a refused parse, or another count of values.
+            if random.once_in(2) {
+                body.report = vec![2, body.pairs.len() as u64 / 4, body.maps.len() as u64 / 2, 0, 0, 0, 0, 0];
+            } else {
+                body.report[0] = strange_count(random, body.report[0]);
+            }
+            "no report"
         }
         _ => {
             // A value of a sized field with another length.

@@ -8,9 +8,9 @@ mod lookups;
 mod parse;
 mod transaction;
 
-use lookups::{Lent, Wanted};
+use lookups::{Lent, Wanted, UNFIT};
 use records::calls::*;
-use records::{Answer, Call, Looked, Memory};
+use records::{Answer, Call, Left, Looked, Memory};
 use Told::{List, Number, Part};
 use Wanted::{Any, Exactly};
 
@@ -68,7 +68,23 @@ fn part_of(bytes: &[u8], looked: Looked) -> &[u8] {
     looked.ok().flatten().map_or(&[], |(start, length)| &bytes[start..start + length])
 }
 
+/// How many values an accepted parse tells: the first word of its report.
+const REPORTED: u64 = 7;
+
+/// What the calls that firmware has answer where the report is none. Nothing is written.
+fn no_report(memory: &Memory, call: &Call) -> Answer {
+    let told = Answer::told(UNFIT, &[]);
+    match call.number {
+        SET => told.leaving(Left::Bytes(memory.scripts.clone())),
+        TX => told.leaving(Left::Bytes(memory.out.clone())),
+        _ => told,
+    }
+}
+
 fn answer(memory: &mut Memory, call: &Call) -> Answer {
+    if (LOCK..=SCRIPT).contains(&call.number) && memory.reported(0) != REPORTED {
+        return no_report(memory, call);
+    }
     match call.number {
         PARSE => parse::parse(memory),
         SET => transaction::set(memory, &memory.list.clone()),

@@ -11,6 +11,10 @@ fastpsbt-input-iter-keys-spec =
     (tie.spec
     (λ c κs. search (needs, asks))
     (λ c κs. search (needs, asks))
+    (λ c. search (needs, asks))
+    (λ c. search (needs, asks))
+    (λ c κs. search (needs, asks))
+    (λ c κs. search (needs, asks))
     (λ c κs. search (needs, asks))
     (λ c. search (needs, asks))
     (λ c. search (needs, asks)))

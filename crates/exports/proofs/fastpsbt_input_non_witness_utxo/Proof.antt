@@ -11,6 +11,10 @@ fastpsbt-input-non-witness-utxo-spec =
     (tie.spec
     (λ c κs. search (needs, asks))
     (λ c κs. search (needs, asks))
+    (λ c. search (needs, asks))
+    (λ c. search (needs, asks))
+    (λ c κs. search (needs, asks))
+    (λ c κs. search (needs, asks))
     (λ c κs. search (needs, asks))
     (λ c. search (needs, asks))
     (λ c. search (needs, asks)))

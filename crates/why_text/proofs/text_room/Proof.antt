@@ -4,4 +4,4 @@ use Rattle.why_text.proofs.text_room.Statement.{statement}
 use Rattle.why_text.proofs.text_room.Tie as tie
 
 pub text-room-spec : {M : Type 1} → statement M
-text-room-spec = tie.close (tie.spec (λ c. room 20480))
+text-room-spec = tie.close (tie.spec (λ c. room 30720))
