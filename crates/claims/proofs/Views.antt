@@ -13,7 +13,8 @@ use Rattle.format.specs.declared.Psbt.{Psbt}
 use Rattle.format.proofs.Tests.{pick-by}
 use Rattle.laws.specs.Shown.{viewBy}
 
-view-front : (i : ℕ) (ms ns : List Map) → i < length ms → viewBy i (ms ++ ns) ≡ viewBy i ms
+-- maps in front of others, and behind them
+pub view-front : (i : ℕ) (ms ns : List Map) → i < length ms → viewBy i (ms ++ ns) ≡ viewBy i ms
 unfolding viewBy
 view-front i [] ns h = absurd (omega arith)
 view-front zero (m ∷ ms) ns h = refl

@@ -63,7 +63,7 @@ unfolding dumpIn
 dump-refused f e P M B q r = refused-text B f (parsed f P M) e (pairs# (events f)) (ended# (events f)) (room-refuses f P M e q r)
 
 -- and so of the dump's own rooms
-zeros-long : (n : ℕ) → length (zeros n) ≡ n
+pub zeros-long : (n : ℕ) → length (zeros n) ≡ n
 unfolding zeros
 zeros-long n = length-replicate n 0
 

@@ -10,7 +10,7 @@ use lib.Seq.{take-append-seam}
 use Rattle.format.specs.Keys.{dataOf}
 use Rattle.format.specs.Content.{Pair, Map, Content, mapsOf, pairBytes, pairsBytes, mapBytes, mapsBytes, bytes, psbtOf}
 use Rattle.format.specs.Reading.{FieldRule, two, accepted, reading, events}
-use Rattle.format.specs.Entries.{mapWords}
+use Rattle.format.specs.Entries.{pairWords, mapWords}
 use Rattle.format.specs.Tables.{mapsReported}
 use Rattle.format.specs.Parse.{ParseOut, out, parsed}
 use Rattle.format.specs.Transaction.{Tx, refuses, writes, TxOut, written, txReported, unsignedTx}
@@ -30,13 +30,13 @@ use Rattle.laws.proofs.Files.{reading-is, one-plus-counts}
 use Rattle.laws.proofs.Parsed.{accepted-is}
 use Rattle.laws.proofs.Rooms.{room-accepts, accepted-roomy}
 use Rattle.text.specs.Say.{newline}
+use Rattle.text.specs.Limits.{longest, mostPairs, mostMaps}
 use Rattle.text.specs.Spelled.{hexByte, hexOrDash}
-use Rattle.text.proofs.Rooms.{room}
 use Rattle.text.proofs.Sizes.{hex-most, decimal-most, decimal-few, signed-most}
 use Rattle.dump_text.specs.Lines.{refusedLine, versionText, countsText, headLine, mapLine, keyText, pairText, pairLine, pairsText, mapText, unsignedText, unsignedLine}
-use Rattle.dump_text.specs.Dump.{zeros, fresh, txLine, parsedText, dumpIn, dump}
+use Rattle.dump_text.specs.Dump.{fresh, txLine, parsedText, dumpIn, dump}
 use Rattle.dump_text.specs.Contents.{mapLines, contentText}
-use Rattle.dump_text.proofs.Contents.{dump-accepted}
+use Rattle.dump_text.proofs.Contents.{zeros-long, dump-accepted}
 
 -- a pair's line: two digits for each byte of its key and its value, and five more
 data-length : (k : List ℕ) → 0 < length k → length (dataOf k) + 1 ≡ length k
@@ -86,7 +86,7 @@ unfolding pairsIn
 pairs-behind [] ns = omega arith
 pairs-behind (x ∷ ms) ns = omega (arith, pairs-behind ms ns)
 
-all-maps : (f : List ℕ) (c : Content) → reading f ≡ accepted c → pairsIn (mapsOf c) ≤ 1024 → length (mapsOf c) ≤ 256 → length (mapLines 0 (mapsOf c)) ≤ 2 * length f + 9984
+all-maps : (f : List ℕ) (c : Content) → reading f ≡ accepted c → pairsIn (mapsOf c) ≤ mostPairs → length (mapsOf c) ≤ mostMaps → length (mapLines 0 (mapsOf c)) ≤ 2 * length f + 9984
 unfolding mapsOf bytes mapsBytes pairsIn mapLines
 all-maps f c e p m =
     let i = reading-is f c e in
@@ -130,11 +130,11 @@ reports-few f P M s p m P′ M′ q =
     rw (a .reports) (omega (arith, room-taken f P M s p m P′ M′ q a .maps, one-plus-counts f (a .content) (a .reads)))
 
 -- the text of a file, in rooms of at most the program's
-content-most : (f : List ℕ) (c : Content) (B : List ℕ) → reading f ≡ accepted c → pairsIn (mapsOf c) ≤ 1024 → length (mapsOf c) ≤ 256 → length (contentText c B) ≤ 2 * length f + 2 * length B + 10111
+content-most : (f : List ℕ) (c : Content) (B : List ℕ) → reading f ≡ accepted c → pairsIn (mapsOf c) ≤ mostPairs → length (mapsOf c) ≤ mostMaps → length (contentText c B) ≤ 2 * length f + 2 * length B + 10111
 unfolding contentText unsignedTx
 content-most f c B e p m = simp length-append (omega (arith, all-maps f c e p m, head-most (psbtOf (c .global .pairs)), tx-most fresh B (txReported (psbtOf (c .global .pairs)) fresh [] (reported (λ n. viewBy n (mapsOf c)) (psbtOf (c .global .pairs))))))
 
-in-most : (P M B f : List ℕ) → length P ≤ 4096 → length M ≤ 512 → length B ≤ 65536 → length f ≤ 65536 → length (dumpIn P M B f) ≤ 272384
+in-most : (P M B f : List ℕ) → length P ≤ mostPairs * pairWords → length M ≤ mostMaps * mapWords → length B ≤ longest → length f ≤ longest → length (dumpIn P M B f) ≤ 272384
 unfolding dumpIn parsedText
 in-most P M B f hp hm hb hf = by (parsed f P M) refl
   where
@@ -145,14 +145,10 @@ in-most P M B f hp hm hb hf = by (parsed f P M) refl
         let r = room-taken f P M s p m P′ M′ q a in
         rw (dump-accepted f (a .content) P M B (a .reads) r) (omega (arith, content-most f (a .content) B (a .reads) (omega (arith, r .pairs)) (omega (arith, r .maps))))
 
-pub zeros-most : (n k : ℕ) → n ≤ k → length (zeros n) ≤ k
-unfolding zeros
-zeros-most n k h = omega (arith, room n)
-
 -- so of every file
 pub dump-fits : (f : List ℕ) → length (dump f) ≤ 272384
 unfolding dump
 dump-fits f =
-    pick-by (λ (l : List ℕ). length l ≤ 272384) (ltb 65536 (length f)) _ _
+    pick-by (λ (l : List ℕ). length l ≤ 272384) (ltb longest (length f)) _ _
     (λ h. omega (arith, refused-most TooLong))
-    (λ h. in-most _ _ _ f (zeros-most _ 4096 (omega arith)) (zeros-most _ 512 (omega arith)) (zeros-most _ 65536 (omega arith)) (ltb-false 65536 (length f) h))
+    (λ h. in-most _ _ _ f (omega (arith, zeros-long (mostPairs * pairWords))) (omega (arith, zeros-long (mostMaps * mapWords))) (omega (arith, zeros-long longest)) (ltb-false longest (length f) h))

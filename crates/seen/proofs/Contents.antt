@@ -1,7 +1,7 @@
 -- The text of an accepted file is its content's: an input's line shows what the lock rule takes of that input. That of a refused file is its refusal.
 use mathlib.Core.Path.{_≡_, refl, sym, _∙_, ap}
 use mathlib.Core.List.{List, [], _∷_, _++_}
-use Prim.Native.Nat.{ℕ, zero, suc, _+_, _<_}
+use Prim.Native.Nat.{ℕ, suc, _+_, _<_}
 use native.Mathlib.Omega.{arith}
 use borrow.Author.Tests.{lt-ltb}
 use lib.Dec.{ltb}
@@ -25,6 +25,7 @@ use Rattle.laws.proofs.Rooms.{room-refuses}
 use Rattle.laws.proofs.Shown.{view-is, every-call}
 use Rattle.claims.specs.Asked.{asksFor, seenIn}
 use Rattle.claims.proofs.Asked.{number-seen, seen-bare}
+use Rattle.claims.proofs.Views.{view-front}
 use Rattle.reasons.specs.Reasons.{refusedLine}
 use Rattle.lock_lines.specs.Lines.{headLine, verdict}
 use Rattle.dump_text.specs.Dump.{fresh}
@@ -42,12 +43,6 @@ lines-are h t k (m ∷ ms) w =
     let x : h k ≡ asksFor (inOf (m .pairs) .height) = b .0 ∙ seen-bare 0x12 (m .pairs) in
     let y : t k ≡ asksFor (inOf (m .pairs) .time) = b .1 ∙ seen-bare 0x11 (m .pairs) in
     rw (x, y, lines-are h t (k + 1) ms (λ j i e l. w (suc j) i (omega arith) (omega arith)))
-
-view-front : (j : ℕ) (ms ns : List Map) → j < length ms → viewBy j (ms ++ ns) ≡ viewBy j ms
-unfolding viewBy
-view-front j [] ns h = absurd (omega arith)
-view-front zero (m ∷ ms) ns h = refl
-view-front (suc j) (m ∷ ms) ns h = view-front j ms ns (omega arith)
 
 module _ (f : List ℕ) (c : Content) (P M : List ℕ) (e : reading f ≡ accepted c) where
   inputs-are : length (c .ins) ≡ psbtOf (c .global .pairs) .inputs

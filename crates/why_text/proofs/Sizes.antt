@@ -5,6 +5,7 @@ use Prim.Native.Nat.{ℕ, zero, suc, _+_, _*_, _≤_}
 use native.Mathlib.Omega.{arith}
 use lib.Dec.{ltb}
 use lib.ListN.{length, length-append}
+use Rattle.format.specs.Entries.{mapWords}
 use Rattle.format.specs.Tables.{mapsReported, view}
 use Rattle.format.specs.Parse.{ParseOut, out, parsed}
 use Rattle.format.specs.Transaction.{unsignedTx, lockDecided}
@@ -13,8 +14,10 @@ use Rattle.format.specs.declared.Psbt.{Psbt}
 use Rattle.format.specs.declared.Numbered.{Numbered}
 use Rattle.format.specs.declared.Parsed.the-variants.{Accepted, Refused}
 use Rattle.format.proofs.Tests.{pick-by}
+use Rattle.text.specs.Limits.{longest, mostMaps}
 use Rattle.dump_text.specs.Dump.{fresh}
-use Rattle.dump_text.proofs.Sizes.{reports-few, zeros-most}
+use Rattle.dump_text.proofs.Contents.{zeros-long}
+use Rattle.dump_text.proofs.Sizes.{reports-few}
 use Rattle.reasons.proofs.Sizes.{refused-most}
 use Rattle.lock_lines.proofs.Sizes.{head-most, input-most, verdict-most}
 use Rattle.why_text.specs.Why.{heightAsked, timeAsked, inputsText, answered, acceptedText, parsedText, whyIn, why}
@@ -25,8 +28,8 @@ unfolding inputsText
 inputs-most h t i zero l = omega arith
 inputs-most h t i (suc n) l = simp length-append (omega (arith, input-most i (h i) (t i) (omega arith), inputs-most h t (i + 1) n (omega arith)))
 
--- the text of a file, with room for 256 maps
-accepted-most : (f P M : List ℕ) (s : Psbt) (B : List ℕ) → mapsReported s ≤ 256 → length (acceptedText f P M s B) ≤ 30720
+-- the text of a file, with room for so many maps
+accepted-most : (f P M : List ℕ) (s : Psbt) (B : List ℕ) → mapsReported s ≤ mostMaps → length (acceptedText f P M s B) ≤ 30720
 unfolding acceptedText mapsReported
 accepted-most f P M s B h =
     let a = head-most (s .inputs) (s .«fallback_locktime») in
@@ -34,7 +37,7 @@ accepted-most f P M s B h =
     let c = verdict-most (lockDecided (view f P M s) s) (answered (unsignedTx (view f P M s) s fresh [] B)) in
     simp length-append (omega (arith, a, b, c))
 
-in-most : (P M B f : List ℕ) → length M ≤ 512 → length (whyIn P M B f) ≤ 30720
+in-most : (P M B f : List ℕ) → length M ≤ mostMaps * mapWords → length (whyIn P M B f) ≤ 30720
 unfolding whyIn parsedText
 in-most P M B f h = by (parsed f P M) refl
   where
@@ -46,6 +49,6 @@ in-most P M B f h = by (parsed f P M) refl
 pub why-fits : (f : List ℕ) → length (why f) ≤ 30720
 unfolding why
 why-fits f =
-    pick-by (λ (l : List ℕ). length l ≤ 30720) (ltb 65536 (length f)) _ _
+    pick-by (λ (l : List ℕ). length l ≤ 30720) (ltb longest (length f)) _ _
     (λ h. omega (arith, refused-most TooLong))
-    (λ h. in-most _ _ _ f (zeros-most _ 512 (omega arith)))
+    (λ h. in-most _ _ _ f (omega (arith, zeros-long (mostMaps * mapWords))))
