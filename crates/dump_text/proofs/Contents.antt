@@ -14,12 +14,12 @@ use Rattle.format.specs.Parse.{ParseOut, out, parsed}
 use Rattle.format.specs.Transaction.{unsignedTx}
 use Rattle.format.specs.declared.PsbtError.{PsbtError}
 use Rattle.format.specs.declared.Parsed.the-variants.{Refused}
-use Rattle.laws.specs.Shown.{bare, viewBy, pairsIn, Room}
-use Rattle.laws.specs.Rooms.{Roomy, pairs#, ended#, answer}
-use Rattle.laws.proofs.Files.{one-plus-counts}
-use Rattle.laws.proofs.Parsed.{parse-is}
-use Rattle.laws.proofs.Rooms.{room-refuses}
-use Rattle.laws.proofs.Shown.{every-call}
+use Rattle.claims_reading.specs.Shown.{bare, viewBy, pairsIn, Room}
+use Rattle.claims_reading.specs.Rooms.{Roomy, pairs#, ended#, answer}
+use Rattle.claims_reading.proofs.Files.{one-plus-counts}
+use Rattle.claims_reading.proofs.Parsed.{parse-is}
+use Rattle.claims_reading.proofs.Rooms.{room-refuses}
+use Rattle.claims_reading.proofs.Shown.{every-call}
 use Rattle.text.specs.Limits.{longest, mostPairs, mostMaps}
 use Rattle.dump_text.specs.Lines.{refusedLine, headLine, mapLine, pairLine, pairsText, mapText, mapThen, mapsText}
 use Rattle.dump_text.specs.Dump.{zeros, pairRoom, mapRoom, txRoom, fresh, txLine, acceptedText, parsedText, dumpIn, dump}

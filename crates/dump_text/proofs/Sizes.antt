@@ -23,12 +23,12 @@ use Rattle.format.specs.declared.State.{State}
 use Rattle.format.specs.declared.Parsed.the-variants.{Accepted, Refused}
 use Rattle.format.proofs.Tests.{pick-by}
 use Rattle.format.proofs.Numbers.{All}
-use Rattle.laws.specs.Fine.{Framed, FineMap}
-use Rattle.laws.specs.Shown.{viewBy, pairsIn, Room, Accepts}
-use Rattle.laws.specs.Rooms.{pairs#, begun#, answer}
-use Rattle.laws.proofs.Files.{reading-is, one-plus-counts}
-use Rattle.laws.proofs.Parsed.{accepted-is}
-use Rattle.laws.proofs.Rooms.{room-accepts, accepted-roomy}
+use Rattle.claims_reading.specs.Fine.{Framed, FineMap}
+use Rattle.claims_reading.specs.Shown.{viewBy, pairsIn, Room, Accepts}
+use Rattle.claims_reading.specs.Rooms.{pairs#, begun#, answer}
+use Rattle.claims_reading.proofs.Files.{reading-is, one-plus-counts}
+use Rattle.claims_reading.proofs.Parsed.{accepted-is}
+use Rattle.claims_reading.proofs.Rooms.{room-accepts, accepted-roomy}
 use Rattle.text.specs.Say.{newline}
 use Rattle.text.specs.Limits.{longest, mostPairs, mostMaps}
 use Rattle.text.specs.Spelled.{hexByte, hexOrDash}

@@ -23,7 +23,7 @@ use Rattle.fitness.specs.declared.Fit.{Fit}
 use Rattle.fitness.specs.declared.Fit.the-variants.{Refused, Is}
 use Rattle.fitness.proofs.Walks.{run-none, run-one, next-fits}
 use Rattle.fitness.proofs.Maps.{map-held, map-sound}
-use Rattle.all_maps.proofs.Gathers.{at-whole}
+use Rattle.all_maps_fit.proofs.Gathers.{at-whole}
 use Rattle.text.specs.Spots.{Spot, spot, lay}
 use Rattle.text.proofs.Lays.{lay-then}
 use Rattle.dump_text.specs.Lines.{mapLine, pairLine, pairsText, mapText, mapThen, mapsText}

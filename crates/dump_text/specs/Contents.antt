@@ -3,7 +3,7 @@ use Prim.Native.Nat.{ℕ, _+_}
 use mathlib.Core.List.{List, [], _∷_, _++_}
 use Rattle.format.specs.Content.{Map, Content, mapsOf, psbtOf}
 use Rattle.format.specs.Transaction.{unsignedTx}
-use Rattle.laws.specs.Shown.{viewBy}
+use Rattle.claims_reading.specs.Shown.{viewBy}
 use Rattle.dump_text.specs.Lines.{headLine, mapText}
 use Rattle.dump_text.specs.Dump.{fresh, txLine}
 

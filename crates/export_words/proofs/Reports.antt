@@ -32,9 +32,9 @@ use Rattle.format.specs.declared.Parsed.the-variants.{Accepted, Refused}
 use Rattle.format.proofs.Numbers.{All, Byte, le-below, all-split}
 use Rattle.format.proofs.Tests.{pick-no, pick-by}
 use Rattle.format.proofs.Keys.{same-is}
-use Rattle.laws.specs.Fine.{Keeps}
-use Rattle.laws.proofs.Files.{reading-is}
-use Rattle.laws.proofs.Parsed.{accepted-is}
+use Rattle.claims_reading.specs.Fine.{Keeps}
+use Rattle.claims_reading.proofs.Files.{reading-is}
+use Rattle.claims_reading.proofs.Parsed.{accepted-is}
 use Rattle.export_words.specs.Fitting.{Narrow, Fitting}
 use Rattle.export_words.specs.Words.{word, wordsOf, wordsTold, answerWords, noValue, maybeOf, psbtIn, isReport, noReport, stateOf, Export, exported, ExportWith, leaves, leavesBoth, answeredWith, answered, asked, askedIn, parseLeft, parseExport, outLeft, outExport}
 

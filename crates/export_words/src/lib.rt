@@ -82,7 +82,7 @@ pub fn psbt_of(report: &[u64]) -> Psbt
     ensures { λ r. ⌜ r ≡ psbtIn (now (report .entry)) ⌝ }
 {
     Psbt {
-        tx_version: walk::signed((word(report, 1) % 4294967296) as u32),
+        tx_version: known_so_far::signed((word(report, 1) % 4294967296) as u32),
         fallback_locktime: maybe_of(word(report, 2)),
         tx_modifiable: maybe_of(word(report, 3)),
         inputs: word(report, 4),

@@ -19,11 +19,11 @@ use Rattle.wire.specs.Leads.{lead}
 use Rattle.entries.specs.Words.{mapAt}
 use Rattle.entries.proofs.Tables.{map-count}
 use Rattle.fitness.specs.Fits.{entriesOf}
-use Rattle.all_maps.specs.Alls.{Usable, Whole, pairsOf, inAt}
-use Rattle.all_maps.specs.Places.{sizedIn, inputIn}
-use Rattle.all_maps.specs.declared.SizedAt.{SizedAt}
-use Rattle.all_maps.specs.declared.SizedAt.the-variants as S
-use Rattle.all_maps.specs.declared.InputAt.{InputAt}
+use Rattle.all_maps_fit.specs.Alls.{Usable, Whole, pairsOf, inAt}
+use Rattle.all_maps_fit.specs.Places.{sizedIn, inputIn}
+use Rattle.all_maps_fit.specs.declared.SizedAt.{SizedAt}
+use Rattle.all_maps_fit.specs.declared.SizedAt.the-variants as S
+use Rattle.all_maps_fit.specs.declared.InputAt.{InputAt}
 use Rattle.lock.specs.declared.Wish.{Wish}
 use Rattle.lock.specs.declared.Wish.the-variants.{Nothing, Wrong, Number}
 use Rattle.lock.specs.declared.Most.{Most}

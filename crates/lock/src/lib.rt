@@ -1,6 +1,6 @@
 // The lock time of a transaction, and what decided it. Nothing else looks inside the rule.
-use all_maps::InputAt;
-use all_maps::SizedAt;
+use all_maps_fit::InputAt;
+use all_maps_fit::SizedAt;
 use format::Lock;
 use format::Looked;
 use format::Maybe;
@@ -13,8 +13,8 @@ ghost use Rattle.format.specs.Tables.{view};
 ghost use Rattle.format.specs.Locks.{lockOf};
 ghost use Rattle.format.specs.Transaction.{lockDecided};
 ghost use Rattle.format.specs.Told.{toldLock};
-ghost use Rattle.all_maps.specs.Alls.{Whole, AllFit, inAt, insOf};
-ghost use Rattle.all_maps.specs.Places.{sizedIn, inputIn};
+ghost use Rattle.all_maps_fit.specs.Alls.{Whole, AllFit, inAt, insOf};
+ghost use Rattle.all_maps_fit.specs.Places.{sizedIn, inputIn};
 ghost use Rattle.lock.specs.Asks.{wishOf, isWrong, raised, toppedBy, faultBy, seen, seenIn, noAsks, walk, heightBy, timeBy, decideKinds, decideAsks, lockedBy};
 
 // What an input asks for by one of its fields.
@@ -164,7 +164,7 @@ fn see_input(file: &[u8], pairs: &[u32], maps: &[u32], i: u64, asks: Asks) -> As
     ensures { λ r. ⌜ r ≡ seenIn asks i (inAt (now (file .entry)) (now (pairs .entry)) (now (maps .entry)) i) ⌝ }
 {
     let m = entries::map_entry(maps, (1 + i) as usize);
-    see_at(file, asks, i, all_maps::input_at(file, pairs, m))
+    see_at(file, asks, i, all_maps_fit::input_at(file, pairs, m))
 }
 
 // What is asked for before the first input is seen: nothing.
@@ -249,7 +249,7 @@ pub fn decide(fallback: Maybe, asks: Asks) -> Lock
 pub fn lock_decided(file: &[u8], pairs: &[u32], maps: &[u32], psbt: Psbt) -> Lock
     ensures { λ r. ⌜ toldLock r ≡ toldLock (lockDecided (view (now (file .entry)) (now (pairs .entry)) (now (maps .entry)) psbt) psbt) ⌝ }
 {
-    match all_maps::all_fit(file, pairs, maps, psbt) {
+    match all_maps_fit::all_fit(file, pairs, maps, psbt) {
         Ruled::Refused(e) => Lock::Refused(e),
         Ruled::Passed => {
             let fallback = psbt.fallback_locktime;

@@ -36,10 +36,10 @@ use Rattle.fitness.specs.declared.Fit.the-variants as X
 use Rattle.fitness.proofs.Maps.{output-held}
 use Rattle.scripts.specs.Tables.{entryAt, filled, fitsBy}
 use Rattle.scripts.proofs.Tables.{fits-is}
-use Rattle.all_maps.specs.Places.{foundAt, fieldAt, foundIn}
-use Rattle.all_maps.specs.declared.FoundAt.{FoundAt}
-use Rattle.all_maps.specs.declared.FoundAt.the-variants as F
-use Rattle.all_maps.proofs.Fields.{found-shows}
+use Rattle.all_maps_fit.specs.Places.{foundAt, fieldAt, foundIn}
+use Rattle.all_maps_fit.specs.declared.FoundAt.{FoundAt}
+use Rattle.all_maps_fit.specs.declared.FoundAt.the-variants as F
+use Rattle.all_maps_fit.proofs.Fields.{found-shows}
 use Rattle.output_script.specs.Scripts.{inFile, inTable, standing}
 
 -- an entry with a script stands in its table

@@ -1,5 +1,5 @@
 // An output's script: 04 in the file, else the one that the signer set.
-use all_maps::FoundAt;
+use all_maps_fit::FoundAt;
 use fitness::Fit;
 use format::Looked;
 use format::MapEntry;
@@ -62,7 +62,7 @@ fn script_in(
     requires { ⌜ m .first + m .count ≤ pairCount (now pairs) ⌝ }
     ensures { λ r. ⌜ r ≡ outputScript (now (file .entry)) state (now (scripts .entry)) i (holds (entriesOf (now (pairs .entry)) m)) ⌝ }
 {
-    match all_maps::found_field(file, pairs, m, PSBT_OUT_SCRIPT) {
+    match all_maps_fit::found_field(file, pairs, m, PSBT_OUT_SCRIPT) {
         FoundAt::Missing => in_table(state, scripts, i),
         FoundAt::At { start, len } => in_file(state, scripts, i, start, len),
     }

@@ -22,15 +22,15 @@ use Rattle.format.specs.declared.Parsed.the-variants as A
 use Rattle.format.proofs.Tests.{pick-by}
 use Rattle.format.proofs.Compact.{size-own}
 use Rattle.format.proofs.Numbers.{All}
-use Rattle.laws.specs.Fine.{Rises, Keeps}
-use Rattle.laws.proofs.Items.{ItemIs, item-is}
-use Rattle.laws.proofs.Files.{pair-some}
-use Rattle.walk.specs.Walks.{note, withGlobals, withSeen, atFirst, globalsRule, psbtFrom, closeGlobal, closeOutput, close, finishBy, finish, anInput, anOutput, start, afterBy, after}
+use Rattle.claims_reading.specs.Fine.{Rises, Keeps}
+use Rattle.claims_reading.proofs.Items.{ItemIs, item-is}
+use Rattle.claims_reading.proofs.Files.{pair-some}
+use Rattle.known_so_far.specs.Walks.{note, withGlobals, withSeen, atFirst, globalsRule, psbtFrom, closeGlobal, closeOutput, close, finishBy, finish, anInput, anOutput, start, afterBy, after}
 use Rattle.psbt.specs.Leans.{Lean, done, refusal, begins, pair, ended, lean, cutLean, left, goOn, walkTurn, go, walk}
-use Rattle.walk.specs.declared.Walk.{Walk}
-use Rattle.walk.specs.declared.Next.{Next}
-use Rattle.walk.specs.declared.Next.the-variants.{Stop, Done, Map as More}
-use Rattle.walk.proofs.Notes.{noteAll, foundGlobals, foundSeen, global-noted, output-noted, input-noted, psbt-from, global-rule, seen-rule, inputs-counted, outputs-counted}
+use Rattle.known_so_far.specs.declared.Walk.{Walk}
+use Rattle.known_so_far.specs.declared.Next.{Next}
+use Rattle.known_so_far.specs.declared.Next.the-variants.{Stop, Done, Map as More}
+use Rattle.known_so_far.proofs.Notes.{noteAll, foundGlobals, foundSeen, global-noted, output-noted, input-noted, psbt-from, global-rule, seen-rule, inputs-counted, outputs-counted}
 
 pub cut-lean : (at p m i : ℕ) (P M : List ℕ) (r : Reading) → cut at p m i P M r ≡ cutLean at p m i P M (lean r)
 unfolding cut cutLean lean

@@ -30,14 +30,14 @@ use Rattle.parsed_map.proofs.Items.{over-in, over-length, one-in, width-is, ent
 use Rattle.parsed_map.proofs.Twins.{twin}
 use Rattle.entries.specs.Words.{PairFits, MapFits}
 use Rattle.format.proofs.Entries.{length-putPair, length-putMap}
-use Rattle.walk.specs.Walks.{note, atFirst, after}
+use Rattle.known_so_far.specs.Walks.{note, atFirst, after}
 use Rattle.psbt.specs.Leans.{begins, cutLean, left, goOn, walkTurn, walk, mapsRead}
 use Rattle.psbt.specs.Steps.{Places, InLimit, stepBy, stepAt}
-use Rattle.walk.specs.declared.Walk.{Walk}
+use Rattle.known_so_far.specs.declared.Walk.{Walk}
 use Rattle.psbt.specs.declared.Step.{Step}
 use Rattle.psbt.specs.declared.Step.the-variants.{Stop, Over, One}
-use Rattle.walk.specs.declared.Next.{Next}
-use Rattle.walk.specs.declared.Next.the-variants as N
+use Rattle.known_so_far.specs.declared.Next.{Next}
+use Rattle.known_so_far.specs.declared.Next.the-variants as N
 use Rattle.psbt.proofs.Leans.{walk-turn}
 use Rattle.psbt.proofs.Steps.{limit-fits}
 

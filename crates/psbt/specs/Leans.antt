@@ -14,10 +14,10 @@ use Rattle.format.specs.declared.PsbtError.{PsbtError}
 use Rattle.format.specs.declared.PsbtError.the-variants.{UnexpectedEof, PairsFull, MapsFull}
 use Rattle.format.specs.declared.Psbt.{Psbt}
 use Rattle.format.specs.declared.Parsed.the-variants as A
-use Rattle.walk.specs.Walks.{note, atFirst, after}
-use Rattle.walk.specs.declared.Walk.{Walk}
-use Rattle.walk.specs.declared.Next.{Next}
-use Rattle.walk.specs.declared.Next.the-variants.{Stop, Done, Map as More}
+use Rattle.known_so_far.specs.Walks.{note, atFirst, after}
+use Rattle.known_so_far.specs.declared.Walk.{Walk}
+use Rattle.known_so_far.specs.declared.Next.{Next}
+use Rattle.known_so_far.specs.declared.Next.the-variants.{Stop, Done, Map as More}
 
 -- what happens in a file, with what is reported in place of the content
 pub data Lean : Type 0 where

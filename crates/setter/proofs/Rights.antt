@@ -18,13 +18,13 @@ use Rattle.format.specs.declared.State.{State}
 use Rattle.format.specs.declared.Assignment.{Assignment}
 use Rattle.entries.specs.Words.{pairCount, mapCount, mapAt}
 use Rattle.entries.proofs.Tables.{map-count}
-use Rattle.all_maps.specs.Alls.{outAt, outsOf}
-use Rattle.all_maps.specs.Places.{fieldAt, foundIn}
-use Rattle.all_maps.specs.declared.FoundAt.{FoundAt}
-use Rattle.all_maps.specs.declared.FoundAt.the-variants as F
-use Rattle.all_maps.proofs.Runs.{from-length, from-here}
-use Rattle.all_maps.proofs.Gathers.{output-listed, output-usable}
-use Rattle.all_maps.proofs.Fields.{found-shows, out-script}
+use Rattle.all_maps_fit.specs.Alls.{outAt, outsOf}
+use Rattle.all_maps_fit.specs.Places.{fieldAt, foundIn}
+use Rattle.all_maps_fit.specs.declared.FoundAt.{FoundAt}
+use Rattle.all_maps_fit.specs.declared.FoundAt.the-variants as F
+use Rattle.all_maps_fit.proofs.Runs.{from-length, from-here}
+use Rattle.all_maps_fit.proofs.Gathers.{output-listed, output-usable}
+use Rattle.all_maps_fit.proofs.Fields.{found-shows, out-script}
 use Rattle.setter.specs.Records.{records}
 use Rattle.setter.specs.Rights.{servedAt, rightGiven, OutputOf}
 

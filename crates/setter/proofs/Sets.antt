@@ -21,9 +21,9 @@ use Rattle.format.specs.declared.Ruled.the-variants as R
 use Rattle.format.specs.declared.ScriptsSet.{ScriptsSet}
 use Rattle.format.specs.declared.ScriptsSet.the-variants.{Refused}
 use Rattle.format.proofs.Tests.{and-left, and-right, never-true}
-use Rattle.all_maps.specs.Alls.{ruledBy, AllFit, outAt, outsOf}
-use Rattle.all_maps.proofs.Runs.{from-length}
-use Rattle.all_maps.proofs.Gathers.{all-are, all-not, all-reported}
+use Rattle.all_maps_fit.specs.Alls.{ruledBy, AllFit, outAt, outsOf}
+use Rattle.all_maps_fit.proofs.Runs.{from-length}
+use Rattle.all_maps_fit.proofs.Gathers.{all-are, all-not, all-reported}
 use Rattle.setter.specs.Records.{records, lies, sound}
 use Rattle.setter.specs.Fills.{entriesFrom, stateAfter, filledFor, Sound}
 use Rattle.setter.specs.Rights.{rightGiven}

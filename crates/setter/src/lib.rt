@@ -1,5 +1,5 @@
 // The setter: scripts that the signer gives to the outputs without one.
-use all_maps::FoundAt;
+use all_maps_fit::FoundAt;
 use format::Assignment;
 use format::Psbt;
 use format::PsbtError;
@@ -16,7 +16,7 @@ ghost use Rattle.format.specs.Tables.{view};
 ghost use Rattle.format.specs.Scripts.{scriptIn, allowed, named, served, flat, entryFor, settable, setOut, setGiven, setScripts};
 ghost use Rattle.format.specs.Told.{toldLeft, toldSet, toldSetOut};
 ghost use Rattle.writer.specs.Writes.{wrote};
-ghost use Rattle.all_maps.specs.Alls.{AllFit, outAt, outsOf};
+ghost use Rattle.all_maps_fit.specs.Alls.{AllFit, outAt, outsOf};
 ghost use Rattle.setter.specs.Records.{records, recordCount, recordAt, recordFrom, lies, sound, firstOf};
 ghost use Rattle.setter.specs.Fills.{entriesFrom, stateAfter, filledFor, Giving, Sound, Ready};
 ghost use Rattle.setter.specs.Rights.{servedAt, rightGiven, OutputOf};
@@ -237,7 +237,7 @@ pub fn has_script(file: &[u8], pairs: &[u32], maps: &[u32], psbt: Psbt, i: u64) 
     ensures { λ r. ⌜ r ≡ present (outAt (now (file .entry)) (now (pairs .entry)) (now (maps .entry)) psbt i .script) ⌝ }
 {
     let m = entries::map_entry(maps, (1 + psbt.inputs + i) as usize);
-    match all_maps::found_field(file, pairs, m, format::PSBT_OUT_SCRIPT) {
+    match all_maps_fit::found_field(file, pairs, m, format::PSBT_OUT_SCRIPT) {
         FoundAt::Missing => false,
         FoundAt::At { start: _, len: _ } => true,
     }
@@ -344,7 +344,7 @@ pub fn set_sp_output_scripts(
 ) -> ScriptsSet
     ensures { λ r. ⌜ toldLeft (toldSet r) (now (scripts .exit)) ≡ toldSetOut (setScripts (view (now (file .entry)) (now (pairs .entry)) (now (maps .entry)) psbt) psbt (flat (now (list .entry))) (now (buffer .entry)) state (now (scripts .entry))) ⌝ }
 {
-    match all_maps::all_fit(file, pairs, maps, psbt) {
+    match all_maps_fit::all_fit(file, pairs, maps, psbt) {
         Ruled::Refused(e) => ScriptsSet::Refused(e),
         Ruled::Passed => set_fit(file, pairs, maps, psbt, list, buffer, state, scripts),
     }

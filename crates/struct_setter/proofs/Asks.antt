@@ -20,7 +20,7 @@ use Rattle.format.specs.declared.Assignment.{Assignment}
 use Rattle.format.specs.declared.ScriptsSet.{ScriptsSet}
 use Rattle.format.specs.declared.ScriptsSet.the-variants.{Refused, Done}
 use Rattle.writer.specs.Writes.{wrote}
-use Rattle.all_maps.specs.Alls.{outAt}
+use Rattle.all_maps_fit.specs.Alls.{outAt}
 use Rattle.setter.specs.Fills.{stateAfter, Giving}
 use Rattle.setter.specs.Rights.{OutputOf}
 use Rattle.struct_setter.specs.Names.{namedBy, namesAfter, servedBy, entryBy, Entry}

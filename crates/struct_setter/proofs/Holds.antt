@@ -23,8 +23,8 @@ use Rattle.format.specs.declared.ScriptsSet.{ScriptsSet}
 use Rattle.format.specs.declared.ScriptsSet.the-variants.{Refused, Done}
 use Rattle.format.proofs.Tests.{pick-by, and-left, never-true}
 use Rattle.writer.specs.Writes.{wrote}
-use Rattle.all_maps.specs.Alls.{ruledBy, AllFit, outAt, outsOf}
-use Rattle.all_maps.proofs.Gathers.{all-are, all-not, all-reported}
+use Rattle.all_maps_fit.specs.Alls.{ruledBy, AllFit, outAt, outsOf}
+use Rattle.all_maps_fit.proofs.Gathers.{all-are, all-not, all-reported}
 use Rattle.setter.specs.Records.{records, sound}
 use Rattle.setter.specs.Fills.{stateAfter, Ready}
 use Rattle.setter.specs.Rights.{servedAt, rightGiven}

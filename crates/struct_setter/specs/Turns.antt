@@ -17,7 +17,7 @@ use Rattle.format.specs.declared.Assignment.{Assignment}
 use Rattle.format.specs.declared.ScriptsSet.{ScriptsSet}
 use Rattle.format.specs.declared.ScriptsSet.the-variants.{Refused, Done}
 use Rattle.writer.specs.Writes.{wrote}
-use Rattle.all_maps.specs.Alls.{AllFit, outAt}
+use Rattle.all_maps_fit.specs.Alls.{AllFit, outAt}
 use Rattle.setter.specs.Fills.{stateAfter}
 use Rattle.struct_setter.specs.Names.{namesAfter, servedBy, entryBy, Entry}
 use Rattle.struct_setter.specs.declared.Names.{Names}

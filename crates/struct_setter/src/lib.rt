@@ -12,7 +12,7 @@ ghost use Rattle.format.specs.Tables.{view, gather, mapsReported};
 ghost use Rattle.format.specs.Scripts.{whole, setScripts};
 ghost use Rattle.format.specs.Told.{toldLeft, toldSet, toldSetOut};
 ghost use Rattle.writer.specs.Writes.{wrote};
-ghost use Rattle.all_maps.specs.Alls.{outAt, ruledBy};
+ghost use Rattle.all_maps_fit.specs.Alls.{outAt, ruledBy};
 ghost use Rattle.setter.specs.Rights.{OutputOf};
 ghost use Rattle.struct_setter.specs.Names.{namedBy, namesAfter, servedBy, entryBy, Entry};
 ghost use Rattle.struct_setter.specs.Turns.{begun, going, answerOf, allowedToo, noted, tallied, writing, serving, afterServe, turned, turnOf, Due};
@@ -125,7 +125,7 @@ fn tally(list: &[Assignment], buffer: &[u8], psbt: Psbt, task: Task) -> Task
 fn begin(file: &[u8], pairs: &[u32], maps: &[u32], psbt: Psbt, state: State) -> Task
     ensures { λ r. ⌜ r ≡ begun state (ruledBy (gather (view (now (file .entry)) (now (pairs .entry)) (now (maps .entry)) psbt) 0 (mapsReported psbt))) ⌝ }
 {
-    match all_maps::all_fit(file, pairs, maps, psbt) {
+    match all_maps_fit::all_fit(file, pairs, maps, psbt) {
         Ruled::Refused(e) => {
             let error = e;
             Task::Over(ScriptsSet::Refused(error))

@@ -18,7 +18,7 @@ use Rattle.format.specs.declared.Psbt.{Psbt}
 use Rattle.format.specs.declared.State.{State}
 use Rattle.format.proofs.Numbers.{All, length-bytesOf}
 use Rattle.format.proofs.Tests.{pick-by, never-true, and-left, and-right}
-use Rattle.all_maps.specs.Alls.{inAt, outAt, from, insOf}
+use Rattle.all_maps_fit.specs.Alls.{inAt, outAt, from, insOf}
 use Rattle.writer.specs.Writes.{wrote, sizeLength}
 use Rattle.writer.proofs.Writes.{wrote-append, wrote-then, wrote-none}
 use Rattle.tx_size.specs.Lengths.{isThere, scripted, scriptBytes, inputLength, outLength, outsLength, capped, measureBy, outMeasure, outsMeasure, fixedLength}

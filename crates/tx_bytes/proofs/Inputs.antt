@@ -15,12 +15,12 @@ use Rattle.format.specs.declared.Psbt.{Psbt}
 use Rattle.format.specs.declared.Looked.the-variants as K
 use Rattle.entries.specs.Words.{mapAt}
 use Rattle.entries.proofs.Tables.{map-count}
-use Rattle.all_maps.specs.Alls.{Usable, AllFit, pairsOf, inAt, from, insOf}
-use Rattle.all_maps.specs.Places.{sizedIn, inputIn}
-use Rattle.all_maps.specs.declared.SizedAt.{SizedAt}
-use Rattle.all_maps.specs.declared.SizedAt.the-variants as S
-use Rattle.all_maps.specs.declared.InputAt.{InputAt}
-use Rattle.all_maps.proofs.Gathers.{input-listed, input-usable}
+use Rattle.all_maps_fit.specs.Alls.{Usable, AllFit, pairsOf, inAt, from, insOf}
+use Rattle.all_maps_fit.specs.Places.{sizedIn, inputIn}
+use Rattle.all_maps_fit.specs.declared.SizedAt.{SizedAt}
+use Rattle.all_maps_fit.specs.declared.SizedAt.the-variants as S
+use Rattle.all_maps_fit.specs.declared.InputAt.{InputAt}
+use Rattle.all_maps_fit.proofs.Gathers.{input-listed, input-usable}
 use Rattle.writer.specs.Writes.{wrote}
 use Rattle.writer.proofs.Writes.{wrote-none, length-wrote}
 use Rattle.tx_size.specs.Lengths.{inputLength}

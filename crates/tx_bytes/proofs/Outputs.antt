@@ -19,9 +19,9 @@ use Rattle.format.specs.declared.Looked.the-variants as K
 use Rattle.wire.proofs.Sizes.{part-rest}
 use Rattle.entries.specs.Words.{mapAt}
 use Rattle.scripts.specs.Tables.{entryAt}
-use Rattle.all_maps.specs.Alls.{Usable, from}
-use Rattle.all_maps.specs.Places.{sizedIn}
-use Rattle.all_maps.specs.declared.SizedAt.{SizedAt}
+use Rattle.all_maps_fit.specs.Alls.{Usable, from}
+use Rattle.all_maps_fit.specs.Places.{sizedIn}
+use Rattle.all_maps_fit.specs.declared.SizedAt.{SizedAt}
 use Rattle.writer.specs.Writes.{wrote, sizeLength}
 use Rattle.writer.proofs.Writes.{length-wrote, wrote-long, wrote-none}
 use Rattle.tx_size.specs.Lengths.{scripted, scriptBytes, outLength, outsLength}

@@ -16,8 +16,8 @@ use Rattle.format.specs.Locks.{In}
 use Rattle.format.specs.Scripts.{Out}
 use Rattle.format.specs.declared.Psbt.{Psbt}
 use Rattle.format.specs.declared.State.{State}
-use Rattle.all_maps.specs.Alls.{inAt, insOf}
-use Rattle.all_maps.proofs.Runs.{from-length}
+use Rattle.all_maps_fit.specs.Alls.{inAt, insOf}
+use Rattle.all_maps_fit.proofs.Runs.{from-length}
 use Rattle.writer.specs.Writes.{wrote, sizeLength}
 use Rattle.writer.proofs.Writes.{length-wrote, wrote-long}
 use Rattle.tx_size.specs.Lengths.{inputLength, outsLength, fixedLength}

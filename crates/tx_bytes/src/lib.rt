@@ -1,5 +1,5 @@
 // Writes the bytes of an unsigned transaction into a lent buffer that has the room for them.
-use all_maps::SizedAt;
+use all_maps_fit::SizedAt;
 use format::Looked;
 use format::MapEntry;
 use format::PSBT_OUT_AMOUNT;
@@ -13,8 +13,8 @@ ghost use lib.ListN.{length};
 ghost use Rattle.format.specs.Numbers.{bytesOf, unsigned};
 ghost use Rattle.format.specs.Transaction.{orFinal};
 ghost use Rattle.writer.specs.Writes.{wrote};
-ghost use Rattle.all_maps.specs.Alls.{insOf};
-ghost use Rattle.all_maps.specs.Places.{sizedIn};
+ghost use Rattle.all_maps_fit.specs.Alls.{insOf};
+ghost use Rattle.all_maps_fit.specs.Places.{sizedIn};
 ghost use Rattle.tx_size.specs.Lengths.{scripted, scriptBytes};
 ghost use Rattle.tx_size.specs.Places.{outIn, outsNow, scriptIn, scriptLength};
 ghost use Rattle.tx_bytes.specs.Bytes.{bytesIn};
@@ -57,7 +57,7 @@ fn put_input(file: &[u8], pairs: &[u32], m: MapEntry, out: &mut [u8], at: usize)
     requires { ⌜ InputRoom (now file) (now pairs) m at (length (now out)) ⌝ }
     ensures { λ _. ⌜ now (out .exit) ≡ putInput (now (out .entry)) at (inIn (now (file .entry)) (now (pairs .entry)) m) ⌝ }
 {
-    let places = all_maps::input_at(file, pairs, m);
+    let places = all_maps_fit::input_at(file, pairs, m);
     let txid = places.txid;
     let index = places.index;
     let sequence = places.sequence;
@@ -125,7 +125,7 @@ fn put_output(
     requires { ⌜ OutputRoom (now file) (now pairs) m (now entry) at (length (now out)) ⌝ }
     ensures { λ r. ⌜ put r (now (out .exit)) ≡ putOne (now (out .entry)) at (scripted (outIn (now (file .entry)) (now (pairs .entry)) m) (now (entry .entry))) ⌝ }
 {
-    let amount = all_maps::sized_field(file, pairs, m, PSBT_OUT_AMOUNT, 8);
+    let amount = all_maps_fit::sized_field(file, pairs, m, PSBT_OUT_AMOUNT, 8);
     let script = tx_size::script_at(file, pairs, m, entry);
     let n = tx_size::script_len(file, entry, script);
     let to_size = at + 8;

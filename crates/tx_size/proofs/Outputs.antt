@@ -20,12 +20,12 @@ use Rattle.format.proofs.Tests.{never-true}
 use Rattle.entries.specs.Words.{mapAt}
 use Rattle.entries.proofs.Tables.{map-count}
 use Rattle.scripts.specs.Tables.{entryAt}
-use Rattle.all_maps.specs.Alls.{AllFit, pairsOf, outAt, from}
-use Rattle.all_maps.specs.Places.{sizedIn}
-use Rattle.all_maps.specs.declared.SizedAt.{SizedAt}
-use Rattle.all_maps.specs.declared.SizedAt.the-variants as S
-use Rattle.all_maps.proofs.Runs.{from-none, from-one}
-use Rattle.all_maps.proofs.Gathers.{output-listed, output-usable}
+use Rattle.all_maps_fit.specs.Alls.{AllFit, pairsOf, outAt, from}
+use Rattle.all_maps_fit.specs.Places.{sizedIn}
+use Rattle.all_maps_fit.specs.declared.SizedAt.{SizedAt}
+use Rattle.all_maps_fit.specs.declared.SizedAt.the-variants as S
+use Rattle.all_maps_fit.proofs.Runs.{from-none, from-one}
+use Rattle.all_maps_fit.proofs.Gathers.{output-listed, output-usable}
 use Rattle.tx_size.specs.Lengths.{isThere, scripted, scriptBytes, outLength, capped, measureBy, outMeasure, moreBy, outsMeasure, fixedLength, txMeasure}
 use Rattle.tx_size.specs.Places.{pairsIn, outIn, outNow, outsNow, thereAt, scriptIn, scriptLength, hasScript}
 use Rattle.tx_size.specs.declared.Measure.{Measure}

@@ -16,10 +16,10 @@ use Rattle.format.specs.declared.State.{State}
 use Rattle.format.specs.declared.Looked.the-variants as K
 use Rattle.format.proofs.Tests.{never-true}
 use Rattle.scripts.specs.Tables.{entryAt}
-use Rattle.all_maps.specs.Places.{foundIn, fieldAt}
-use Rattle.all_maps.specs.declared.FoundAt.{FoundAt}
-use Rattle.all_maps.specs.declared.FoundAt.the-variants as F
-use Rattle.all_maps.proofs.Fields.{usable-within, found-shows}
+use Rattle.all_maps_fit.specs.Places.{foundIn, fieldAt}
+use Rattle.all_maps_fit.specs.declared.FoundAt.{FoundAt}
+use Rattle.all_maps_fit.specs.declared.FoundAt.the-variants as F
+use Rattle.all_maps_fit.proofs.Fields.{usable-within, found-shows}
 use Rattle.tx_size.specs.Lengths.{scripted, scriptBytes}
 use Rattle.tx_size.specs.Places.{outIn, isSet, scriptIn, scriptLength, hasScript}
 use Rattle.tx_size.specs.declared.ScriptAt.{ScriptAt}

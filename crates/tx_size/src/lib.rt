@@ -1,6 +1,6 @@
 // How many bytes an unsigned transaction takes, and whether each output has what it needs: an amount, and a script in the file or in the script table.
-use all_maps::FoundAt;
-use all_maps::SizedAt;
+use all_maps_fit::FoundAt;
+use all_maps_fit::SizedAt;
 use format::Looked;
 use format::MapEntry;
 use format::PSBT_OUT_AMOUNT;
@@ -12,7 +12,7 @@ ghost use mathlib.Core.Path.{_≡_};
 ghost use Prim.Native.Nat.{_+_, _^_, _<_};
 ghost use Rattle.format.specs.Transaction.{setSoFar};
 ghost use Rattle.scripts.specs.Tables.{entryAt};
-ghost use Rattle.all_maps.specs.Alls.{Usable, AllFit};
+ghost use Rattle.all_maps_fit.specs.Alls.{Usable, AllFit};
 ghost use Rattle.tx_size.specs.Lengths.{scripted, outLength, capped, outMeasure, outsMeasure, fixedLength, txMeasure};
 ghost use Rattle.tx_size.specs.Places.{outIn, outsNow, thereAt, isSet, scriptIn, scriptLength, hasScript};
 
@@ -73,7 +73,7 @@ pub fn script_at(file: &[u8], pairs: &[u32], m: MapEntry, entry: &[u8]) -> Scrip
     requires { ⌜ Usable (now file) (now pairs) m ⌝ }
     ensures { λ r. ⌜ scriptIn (now (file .entry)) (now (entry .entry)) r ≡ (scripted (outIn (now (file .entry)) (now (pairs .entry)) m) (now (entry .entry))) .script ⌝ }
 {
-    match all_maps::found_field(file, pairs, m, PSBT_OUT_SCRIPT) {
+    match all_maps_fit::found_field(file, pairs, m, PSBT_OUT_SCRIPT) {
         FoundAt::At { start, len } => ScriptAt::InFile { start, len },
         FoundAt::Missing => {
             if is_set(entry) {
@@ -121,7 +121,7 @@ fn output_len(file: &[u8], pairs: &[u32], m: MapEntry, entry: &[u8]) -> Measure
     requires { ⌜ Usable (now file) (now pairs) m ⌝ }
     ensures { λ r. ⌜ r ≡ outMeasure (scripted (outIn (now (file .entry)) (now (pairs .entry)) m) (now (entry .entry))) ⌝ }
 {
-    let amount = all_maps::sized_field(file, pairs, m, PSBT_OUT_AMOUNT, 8);
+    let amount = all_maps_fit::sized_field(file, pairs, m, PSBT_OUT_AMOUNT, 8);
     if is_there(amount) {
         let at = script_at(file, pairs, m, entry);
         if has_script(at) {

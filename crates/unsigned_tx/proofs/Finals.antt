@@ -23,8 +23,8 @@ use Rattle.format.specs.declared.UnsignedTx.{UnsignedTx}
 use Rattle.format.specs.declared.UnsignedTx.the-variants as U
 use Rattle.writer.proofs.Writes.{wrote-front}
 use Rattle.scripts.specs.Tables.{entryAt}
-use Rattle.all_maps.specs.Alls.{ruledBy, AllFit, outAt, from, insOf, outsOf}
-use Rattle.all_maps.proofs.Gathers.{all-are, all-not, all-reported}
+use Rattle.all_maps_fit.specs.Alls.{ruledBy, AllFit, outAt, from, insOf, outsOf}
+use Rattle.all_maps_fit.proofs.Gathers.{all-are, all-not, all-reported}
 use Rattle.lock.specs.Asks.{noAsks, walk, decideAsks, lockedBy}
 use Rattle.lock.proofs.Locks.{lock-fit}
 use Rattle.lock.specs.declared.LockTime.{LockTime}

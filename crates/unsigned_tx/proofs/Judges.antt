@@ -15,12 +15,12 @@ use Rattle.format.specs.declared.State.{State}
 use Rattle.entries.specs.Words.{pairCount, mapAt}
 use Rattle.scripts.specs.Tables.{entryAt, fitsBy}
 use Rattle.scripts.proofs.Tables.{fits-is}
-use Rattle.all_maps.specs.Alls.{AllFit, pairsOf, outAt, from, outsOf}
-use Rattle.all_maps.specs.Places.{foundIn, fieldAt}
-use Rattle.all_maps.specs.declared.FoundAt.{FoundAt}
-use Rattle.all_maps.specs.declared.FoundAt.the-variants as F
-use Rattle.all_maps.proofs.Gathers.{output-usable}
-use Rattle.all_maps.proofs.Fields.{usable-within, found-shows}
+use Rattle.all_maps_fit.specs.Alls.{AllFit, pairsOf, outAt, from, outsOf}
+use Rattle.all_maps_fit.specs.Places.{foundIn, fieldAt}
+use Rattle.all_maps_fit.specs.declared.FoundAt.{FoundAt}
+use Rattle.all_maps_fit.specs.declared.FoundAt.the-variants as F
+use Rattle.all_maps_fit.proofs.Gathers.{output-usable}
+use Rattle.all_maps_fit.proofs.Fields.{usable-within, found-shows}
 use Rattle.tx_size.specs.Places.{pairsIn}
 use Rattle.tx_size.proofs.Outputs.{rest-none, rest-one, rest-all}
 use Rattle.unsigned_tx.specs.Surveys.{isFound}

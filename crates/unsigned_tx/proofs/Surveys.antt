@@ -9,12 +9,12 @@ use Rattle.format.specs.Transaction.{orFinal}
 use Rattle.format.specs.declared.MapEntry.{MapEntry}
 use Rattle.format.specs.declared.Psbt.{Psbt}
 use Rattle.entries.specs.Words.{mapAt}
-use Rattle.all_maps.specs.Alls.{inAt, from, insOf}
-use Rattle.all_maps.specs.Places.{sizedIn, inputIn}
-use Rattle.all_maps.specs.declared.SizedAt.{SizedAt}
-use Rattle.all_maps.specs.declared.SizedAt.the-variants as S
-use Rattle.all_maps.specs.declared.InputAt.{InputAt}
-use Rattle.all_maps.proofs.Gathers.{input-listed, input-usable}
+use Rattle.all_maps_fit.specs.Alls.{inAt, from, insOf}
+use Rattle.all_maps_fit.specs.Places.{sizedIn, inputIn}
+use Rattle.all_maps_fit.specs.declared.SizedAt.{SizedAt}
+use Rattle.all_maps_fit.specs.declared.SizedAt.the-variants as S
+use Rattle.all_maps_fit.specs.declared.InputAt.{InputAt}
+use Rattle.all_maps_fit.proofs.Gathers.{input-listed, input-usable}
 use Rattle.lock.specs.Asks.{seenIn, noAsks}
 use Rattle.lock.specs.declared.Asks.{Asks}
 use Rattle.lock.proofs.Wishes.{shown-at}

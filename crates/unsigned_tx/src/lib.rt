@@ -1,7 +1,7 @@
 // The unsigned transaction: measured and judged first, then written, so that a refusal writes nothing.
-use all_maps::FoundAt;
-use all_maps::InputAt;
-use all_maps::SizedAt;
+use all_maps_fit::FoundAt;
+use all_maps_fit::InputAt;
+use all_maps_fit::SizedAt;
 use format::PSBT_OUT_SCRIPT;
 use format::Psbt;
 use format::PsbtError;
@@ -16,7 +16,7 @@ ghost use mathlib.Core.Bool.{_&&_};
 ghost use Rattle.format.specs.Transaction.{setSoFar, scriptsFit, tableFits, txWith, txOut, written, unsignedTx};
 ghost use Rattle.format.specs.Told.{toldLeft, toldTx, toldTxOut};
 ghost use Rattle.format.specs.Tables.{view};
-ghost use Rattle.all_maps.specs.Alls.{AllFit, insOf, outsOf};
+ghost use Rattle.all_maps_fit.specs.Alls.{AllFit, insOf, outsOf};
 ghost use Rattle.unsigned_tx.specs.Surveys.{allowedAt, okAt, surveyOf, AllOk, isFound};
 
 // What all inputs ask of the lock, and whether each has what a transaction needs.
@@ -71,7 +71,7 @@ fn survey_inputs(file: &[u8], pairs: &[u32], maps: &[u32], psbt: Psbt) -> Survey
     let mut i: u64 = 0;
     while i < psbt.inputs {
         let m = entries::map_entry(maps, (1 + i) as usize);
-        let at = all_maps::input_at(file, pairs, m);
+        let at = all_maps_fit::input_at(file, pairs, m);
         asks = lock::see_at(file, asks, i, at);
         ok = all_ok(ok, at);
         i = i + 1;
@@ -97,7 +97,7 @@ fn scripts_fit(file: &[u8], pairs: &[u32], maps: &[u32], psbt: Psbt, scripts: &[
     let mut i: u64 = 0;
     while i < psbt.outputs {
         let m = entries::map_entry(maps, (1 + psbt.inputs + i) as usize);
-        let has = is_found(all_maps::found_field(file, pairs, m, PSBT_OUT_SCRIPT));
+        let has = is_found(all_maps_fit::found_field(file, pairs, m, PSBT_OUT_SCRIPT));
         if scripts::entry_fits(has, scripts::entry_at(scripts, i)) {
             i = i + 1;
         } else {
@@ -203,7 +203,7 @@ pub fn unsigned_tx(
 ) -> UnsignedTx
     ensures { λ r. ⌜ toldLeft (toldTx r) (now (out .exit)) ≡ toldTxOut (unsignedTx (view (now (file .entry)) (now (pairs .entry)) (now (maps .entry)) psbt) psbt state (now (scripts .entry)) (now (out .entry))) ⌝ }
 {
-    match all_maps::all_fit(file, pairs, maps, psbt) {
+    match all_maps_fit::all_fit(file, pairs, maps, psbt) {
         Ruled::Refused(e) => UnsignedTx::Refused(e),
         Ruled::Passed => fit_tx(file, pairs, maps, psbt, state, scripts, out),
     }

@@ -44,7 +44,7 @@ use denote.Triple.Table.{entered, cited}
 use denote.Triple.Clauses.{ensured, lasts}
 use denote.Triple.Walked.{says, Stays, walkOf, stay-slice, stay-dropped, goes-slice, goes-dropped, Walks, ends-at, walked, walk-meets}
 use denote.Exit.{yes}
-use Rattle.all_maps.specs.Alls.{ruledBy}
+use Rattle.all_maps_fit.specs.Alls.{ruledBy}
 use Rattle.format.specs.Tables.{view, gather, mapsReported}
 use Rattle.format.specs.Scripts.{whole as given, setScripts}
 use Rattle.format.specs.Told.{toldLeft, toldSet, toldSetOut}

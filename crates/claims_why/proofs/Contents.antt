@@ -1,0 +1,89 @@
+-- The text of an accepted file is its content's: an input's line shows what the lock rule takes of that input. That of a refused file is its refusal.
+use mathlib.Core.Path.{_≡_, refl, sym, _∙_, ap}
+use mathlib.Core.List.{List, [], _∷_, _++_}
+use Prim.Native.Nat.{ℕ, suc, _+_, _<_}
+use native.Mathlib.Omega.{arith}
+use borrow.Author.Tests.{lt-ltb}
+use lib.Dec.{ltb}
+use lib.ListN.{length}
+use Rattle.format.specs.Content.{Map, Content, mapsOf, psbtOf}
+use Rattle.format.specs.Reading.{accepted, refused, reading, events}
+use Rattle.format.specs.Locks.{inOf}
+use Rattle.format.specs.Tables.{heldInput, view}
+use Rattle.format.specs.Parse.{ParseOut, out, parsed}
+use Rattle.format.specs.Fields.{numberField, requiredHeightLocktime, requiredTimeLocktime}
+use Rattle.format.specs.Transaction.{unsignedTx, lockDecided}
+use Rattle.format.specs.declared.PsbtError.{PsbtError}
+use Rattle.format.specs.declared.Numbered.{Numbered}
+use Rattle.format.specs.declared.Parsed.the-variants.{Refused}
+use Rattle.format.proofs.Tests.{pick-yes}
+use Rattle.claims_reading.specs.Shown.{viewBy, pairTable, mapTable, Room}
+use Rattle.claims_reading.specs.Rooms.{Roomy, pairs#, ended#, answer}
+use Rattle.claims_reading.proofs.Files.{reading-is}
+use Rattle.claims_reading.proofs.Parsed.{parse-is}
+use Rattle.claims_reading.proofs.Rooms.{room-refuses}
+use Rattle.claims_reading.proofs.Shown.{view-is, every-call}
+use Rattle.claims_calls.specs.Asked.{asksFor, seenIn}
+use Rattle.claims_calls.proofs.Asked.{number-seen, seen-bare}
+use Rattle.claims_calls.proofs.Views.{view-front}
+use Rattle.reasons.specs.Reasons.{refusedLine}
+use Rattle.lock_lines.specs.Lines.{headLine, verdict}
+use Rattle.dump_text.specs.Dump.{fresh}
+use Rattle.why_text.specs.Why.{heightAsked, timeAsked, inputsText, answered, acceptedText, parsedText, whyIn}
+use Rattle.claims_why.specs.Contents.{insLines, contentText}
+
+-- maps that ask so, from number k on
+lines-are : (h t : ℕ → Numbered) (k : ℕ) (ms : List Map)
+    → ((j i : ℕ) → i ≡ k + j → j < length ms → (h i ≡ seenIn 0x12 (viewBy j ms)) × (t i ≡ seenIn 0x11 (viewBy j ms)))
+    → inputsText h t k (length ms) ≡ insLines k ms
+unfolding inputsText insLines viewBy inOf
+lines-are h t k [] w = refl
+lines-are h t k (m ∷ ms) w =
+    let b = w 0 k (omega arith) (omega arith) in
+    let x : h k ≡ asksFor (inOf (m .pairs) .height) = b .0 ∙ seen-bare 0x12 (m .pairs) in
+    let y : t k ≡ asksFor (inOf (m .pairs) .time) = b .1 ∙ seen-bare 0x11 (m .pairs) in
+    rw (x, y, lines-are h t (k + 1) ms (λ j i e l. w (suc j) i (omega arith) (omega arith)))
+
+module _ (f : List ℕ) (c : Content) (P M : List ℕ) (e : reading f ≡ accepted c) where
+  inputs-are : length (c .ins) ≡ psbtOf (c .global .pairs) .inputs
+  unfolding psbtOf
+  inputs-are = reading-is f c e .1 .ins#
+
+  input-seen : (t j : ℕ) → j < length (c .ins) → numberField t 4 f (heldInput f (pairTable c P) (mapTable c M) (psbtOf (c .global .pairs)) j) ≡ seenIn t (viewBy j (c .ins))
+  unfolding heldInput view mapsOf viewBy
+  input-seen t j h =
+      let q : j < psbtOf (c .global .pairs) .inputs = omega (arith, inputs-are) in
+      let z : 1 + j ≡ suc j = omega arith in
+      ap (numberField t 4 f) (pick-yes (ltb j (psbtOf (c .global .pairs) .inputs)) _ _ (lt-ltb j (psbtOf (c .global .pairs) .inputs) q))
+      ∙ number-seen f (pairTable c P) (mapTable c M) (psbtOf (c .global .pairs)) (1 + j) t _ refl
+      ∙ ap (seenIn t) (view-is f c P M e (1 + j) ∙ ap (λ (n : ℕ). viewBy n (mapsOf c)) z ∙ view-front j (c .ins) (c .outs) h)
+
+  lines-seen : inputsText (heightAsked f (pairTable c P) (mapTable c M) (psbtOf (c .global .pairs))) (timeAsked f (pairTable c P) (mapTable c M) (psbtOf (c .global .pairs))) 0 (psbtOf (c .global .pairs) .inputs)
+      ≡ insLines 0 (c .ins)
+  unfolding heightAsked timeAsked requiredHeightLocktime requiredTimeLocktime
+  lines-seen =
+      ap (inputsText (heightAsked f (pairTable c P) (mapTable c M) (psbtOf (c .global .pairs))) (timeAsked f (pairTable c P) (mapTable c M) (psbtOf (c .global .pairs))) 0) (sym inputs-are)
+      ∙ lines-are _ _ 0 (c .ins) (λ j i q l. (let z : i ≡ j = omega arith in rw z (input-seen 0x12 j l, input-seen 0x11 j l)))
+
+  -- whatever the rooms, as long as they hold the file's pairs and maps
+  pub why-accepted : (B : List ℕ) → Room c P M → whyIn P M B f ≡ contentText c B
+  unfolding whyIn parsedText acceptedText contentText
+  why-accepted B r =
+      ap (parsedText B f) (parse-is f c P M e r)
+      ∙ every-call f c P M e
+      (λ v. headLine (psbtOf (c .global .pairs) .inputs) (psbtOf (c .global .pairs) .«fallback_locktime»)
+      ++ (inputsText (heightAsked f (pairTable c P) (mapTable c M) (psbtOf (c .global .pairs))) (timeAsked f (pairTable c P) (mapTable c M) (psbtOf (c .global .pairs))) 0 (psbtOf (c .global .pairs) .inputs)
+      ++ verdict (lockDecided v (psbtOf (c .global .pairs))) (answered (unsignedTx v (psbtOf (c .global .pairs)) fresh [] B))))
+      ∙ ap
+      (λ (l : List ℕ). headLine (psbtOf (c .global .pairs) .inputs) (psbtOf (c .global .pairs) .«fallback_locktime»)
+      ++ (l ++ verdict (lockDecided (λ n. viewBy n (mapsOf c)) (psbtOf (c .global .pairs))) (answered (unsignedTx (λ n. viewBy n (mapsOf c)) (psbtOf (c .global .pairs)) fresh [] B))))
+      lines-seen
+
+-- a refused file, with room for what is read before the refusal
+refused-text : (B f : List ℕ) (o : ParseOut) (e : PsbtError) (p m : ℕ) → answer o ≡ Refused e p m → parsedText B f o ≡ refusedLine e
+unfolding answer parsedText
+refused-text B f (out r P M) e p m q = rw q
+
+pub why-refused : (f : List ℕ) (e : PsbtError) (P M B : List ℕ) → reading f ≡ refused e → Roomy (events f) P M → whyIn P M B f ≡ refusedLine e
+unfolding whyIn
+why-refused f e P M B q r = refused-text B f (parsed f P M) e (pairs# (events f)) (ended# (events f)) (room-refuses f P M e q r)
