@@ -28,7 +28,7 @@ use Rattle.claims_calls.proofs.Asked.{number-seen, seen-bare}
 use Rattle.claims_calls.proofs.Views.{view-front}
 use Rattle.reasons.specs.Reasons.{refusedLine}
 use Rattle.lock_lines.specs.Lines.{headLine, verdict}
-use Rattle.dump_text.specs.Dump.{fresh}
+use Rattle.rooms.specs.Rooms.{fresh}
 use Rattle.why_text.specs.Why.{heightAsked, timeAsked, inputsText, answered, acceptedText, parsedText, whyIn}
 use Rattle.claims_why.specs.Contents.{insLines, contentText}
 

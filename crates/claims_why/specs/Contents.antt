@@ -7,7 +7,7 @@ use Rattle.format.specs.Transaction.{unsignedTx, lockDecided}
 use Rattle.claims_reading.specs.Shown.{viewBy}
 use Rattle.claims_calls.specs.Asked.{asksFor}
 use Rattle.lock_lines.specs.Lines.{headLine, inputLine, verdict}
-use Rattle.dump_text.specs.Dump.{fresh}
+use Rattle.rooms.specs.Rooms.{fresh}
 use Rattle.why_text.specs.Why.{answered}
 
 -- the lines of inputs, the first of which has number i, by what the lock rule takes of each

@@ -5,7 +5,7 @@ use Prim.Native.Nat.{ℕ, suc, _+_, _*_, _≤_}
 use native.Mathlib.Nat.{add-zero, zero-add}
 use native.Mathlib.Omega.{arith}
 use borrow.Author.Tests.{le-ltb}
-use lib.ListN.{length, length-replicate, length-map}
+use lib.ListN.{length, length-map}
 use Rattle.format.specs.Content.{Pair, Map, Content, mapsOf, psbtOf}
 use Rattle.format.specs.Reading.{accepted, refused, reading, events}
 use Rattle.format.specs.Entries.{pairWords, mapWords}
@@ -20,9 +20,11 @@ use Rattle.claims_reading.proofs.Files.{one-plus-counts}
 use Rattle.claims_reading.proofs.Parsed.{parse-is}
 use Rattle.claims_reading.proofs.Rooms.{room-refuses}
 use Rattle.claims_reading.proofs.Shown.{every-call}
-use Rattle.text.specs.Limits.{longest, mostPairs, mostMaps}
+use Rattle.rooms.specs.Limits.{longest, mostPairs, mostMaps}
+use Rattle.rooms.specs.Rooms.{pairRoom, mapRoom, txRoom, fresh}
+use Rattle.rooms.proofs.Zeros.{zeros-long}
 use Rattle.dump_text.specs.Lines.{refusedLine, headLine, mapLine, pairLine, pairsText, mapText, mapThen, mapsText}
-use Rattle.dump_text.specs.Dump.{zeros, pairRoom, mapRoom, txRoom, fresh, txLine, acceptedText, parsedText, dumpIn, dump}
+use Rattle.dump_text.specs.Dump.{txLine, acceptedText, parsedText, dumpIn, dump}
 use Rattle.dump_text.specs.Contents.{mapLines, contentText}
 
 -- a pair's line doesn't ask how its lengths are spelled
@@ -63,10 +65,6 @@ unfolding dumpIn
 dump-refused f e P M B q r = refused-text B f (parsed f P M) e (pairs# (events f)) (ended# (events f)) (room-refuses f P M e q r)
 
 -- and so of the dump's own rooms
-pub zeros-long : (n : ℕ) → length (zeros n) ≡ n
-unfolding zeros
-zeros-long n = length-replicate n 0
-
 pub dump-is : (f : List ℕ) (c : Content) → reading f ≡ accepted c → length f ≤ longest → pairsIn (mapsOf c) ≤ mostPairs → length (mapsOf c) ≤ mostMaps → dump f ≡ contentText c txRoom
 unfolding dump
 dump-is f c e h p m =

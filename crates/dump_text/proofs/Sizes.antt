@@ -1,5 +1,5 @@
 -- Every dump fits the room that the program has for it.
-use mathlib.Core.Path.{_≡_, refl, sym, _∙_, ap}
+use mathlib.Core.Path.{_≡_, refl, ap}
 use mathlib.Core.List.{List, [], _∷_, _++_, append-nil}
 use Prim.Native.Nat.{ℕ, suc, _+_, _*_, _≤_, _<_}
 use native.Mathlib.Omega.{arith}
@@ -9,9 +9,8 @@ use lib.ListN.{length, drop, length-append}
 use lib.Seq.{take-append-seam}
 use Rattle.format.specs.Keys.{dataOf}
 use Rattle.format.specs.Content.{Pair, Map, Content, mapsOf, pairBytes, pairsBytes, mapBytes, mapsBytes, bytes, psbtOf}
-use Rattle.format.specs.Reading.{FieldRule, two, accepted, reading, events}
+use Rattle.format.specs.Reading.{FieldRule, two, accepted, reading}
 use Rattle.format.specs.Entries.{pairWords, mapWords}
-use Rattle.format.specs.Tables.{mapsReported}
 use Rattle.format.specs.Parse.{ParseOut, out, parsed}
 use Rattle.format.specs.Transaction.{Tx, refuses, writes, TxOut, written, txReported, unsignedTx}
 use Rattle.format.specs.Scripts.{reported}
@@ -24,19 +23,20 @@ use Rattle.format.specs.declared.Parsed.the-variants.{Accepted, Refused}
 use Rattle.format.proofs.Tests.{pick-by}
 use Rattle.format.proofs.Numbers.{All}
 use Rattle.claims_reading.specs.Fine.{Framed, FineMap}
-use Rattle.claims_reading.specs.Shown.{viewBy, pairsIn, Room, Accepts}
-use Rattle.claims_reading.specs.Rooms.{pairs#, begun#, answer}
-use Rattle.claims_reading.proofs.Files.{reading-is, one-plus-counts}
+use Rattle.claims_reading.specs.Shown.{viewBy, pairsIn}
+use Rattle.claims_reading.proofs.Files.{reading-is}
 use Rattle.claims_reading.proofs.Parsed.{accepted-is}
-use Rattle.claims_reading.proofs.Rooms.{room-accepts, accepted-roomy}
+use Rattle.rooms.specs.Limits.{longest, mostPairs, mostMaps}
+use Rattle.rooms.specs.Rooms.{fresh}
+use Rattle.rooms.proofs.Taken.{room-taken}
+use Rattle.rooms.proofs.Zeros.{zeros-long}
 use Rattle.text.specs.Say.{newline}
-use Rattle.text.specs.Limits.{longest, mostPairs, mostMaps}
 use Rattle.text.specs.Spelled.{hexByte, hexOrDash}
 use Rattle.text.proofs.Sizes.{hex-most, decimal-most, decimal-few, signed-most}
 use Rattle.dump_text.specs.Lines.{refusedLine, versionText, countsText, headLine, mapLine, keyText, pairText, pairLine, pairsText, mapText, unsignedText, unsignedLine}
-use Rattle.dump_text.specs.Dump.{fresh, txLine, parsedText, dumpIn, dump}
+use Rattle.dump_text.specs.Dump.{txLine, parsedText, dumpIn, dump}
 use Rattle.dump_text.specs.Contents.{mapLines, contentText}
-use Rattle.dump_text.proofs.Contents.{zeros-long, dump-accepted}
+use Rattle.dump_text.proofs.Contents.{dump-accepted}
 
 -- a pair's line: two digits for each byte of its key and its value, and five more
 data-length : (k : List ℕ) → 0 < length k → length (dataOf k) + 1 ≡ length k
@@ -113,21 +113,6 @@ tx-most t B (writes x) =
     pick-by (λ (o : TxOut). length (txLine o) ≤ 2 * length B + 38) (leb (length x) (length B)) _ _
     (λ h. rw (take-append-seam x (drop (length x) B)) (omega (arith, length-append (hexOrDash x) newline, hex-most x, leb-true (length x) (length B) h)))
     (λ h. omega (arith, refused-most NoRoom))
-
--- an accepted parse took no more than the room of its tables, so it reports no more maps than these have room for
-room-taken : (f P M : List ℕ) (s : Psbt) (p m : ℕ) (P′ M′ : List ℕ) → parsed f P M ≡ out (Accepted s p m) P′ M′ → (a : Accepts f P M s p m P′ M′) → Room (a .content) P M
-unfolding answer
-room-taken f P M s p m P′ M′ q a =
-    let r = accepted-roomy f P M s p m P′ M′ q in
-    let w : Accepted s p m ≡ Accepted (psbtOf (a .content .global .pairs)) (pairs# (events f)) (begun# (events f)) = sym (ap answer q) ∙ room-accepts f P M (a .content) (a .reads) r in
-    let x : p ≡ pairs# (events f) = cc in
-    let y : m ≡ begun# (events f) = cc in
-    record { pairs = omega (arith, r .pairs, a .pairs); maps = omega (arith, r .maps, a .maps) }
-
-pub reports-few : (f P M : List ℕ) (s : Psbt) (p m : ℕ) (P′ M′ : List ℕ) → parsed f P M ≡ out (Accepted s p m) P′ M′ → mapsReported s * mapWords ≤ length M
-reports-few f P M s p m P′ M′ q =
-    let a = accepted-is f P M s p m P′ M′ q in
-    rw (a .reports) (omega (arith, room-taken f P M s p m P′ M′ q a .maps, one-plus-counts f (a .content) (a .reads)))
 
 -- the text of a file, in rooms of at most the program's
 content-most : (f : List ℕ) (c : Content) (B : List ℕ) → reading f ≡ accepted c → pairsIn (mapsOf c) ≤ mostPairs → length (mapsOf c) ≤ mostMaps → length (contentText c B) ≤ 2 * length f + 2 * length B + 10111

@@ -15,6 +15,11 @@ use format::UnsignedTx;
 use lookup::key_part;
 use lookup::part_of;
 use lookup::value_part;
+use rooms::LONGEST;
+use rooms::file_room;
+use rooms::map_room;
+use rooms::pair_room;
+use rooms::tx_room;
 use text::put;
 use text::put_decimal;
 use text::put_hex_byte;
@@ -30,10 +35,7 @@ ghost use Rattle.entries.specs.Words.{pairCount};
 ghost use Rattle.fitness.specs.Fits.{entriesOf};
 ghost use Rattle.text.specs.Spots.{spot, lay};
 ghost use Rattle.dump_text.specs.Lines.{refusedLine, versionText, countsText, headLine, mapLine, keyText, pairText, pairLine, pairsText, mapText, mapsText, unsignedLine};
-ghost use Rattle.dump_text.specs.Dump.{pairRoom, mapRoom, txRoom, acceptedText, dumpIn, dump};
-
-// The longest file that is dumped, in bytes.
-const MOST: usize = 65536;
+ghost use Rattle.dump_text.specs.Dump.{acceptedText, dumpIn, dump};
 
 // `refused N`
 fn put_refused(out: &mut [u8], at: usize, e: PsbtError) -> usize
@@ -229,48 +231,17 @@ fn put_parsed(
     }
 }
 
-// Room for 1,024 pairs.
-pub fn pair_room() -> [u32; 4096]
-    ensures { λ r. ⌜ r ≡ pairRoom ⌝ }
-    ensures { λ r. ⌜ 4096 ≡ length r ⌝ }
-{
-    [0; 4096]
-}
-
-// Room for 256 maps.
-pub fn map_room() -> [u32; 512]
-    ensures { λ r. ⌜ r ≡ mapRoom ⌝ }
-    ensures { λ r. ⌜ 512 ≡ length r ⌝ }
-{
-    [0; 512]
-}
-
-// Room for the transaction.
-pub fn tx_room() -> [u8; 65536]
-    ensures { λ r. ⌜ r ≡ txRoom ⌝ }
-    ensures { λ r. ⌜ 65536 ≡ length r ⌝ }
-{
-    [0; 65536]
-}
-
 // Puts the text of a file at `at`, as far as there is room, and answers the place behind it.
 pub fn put_dump(out: &mut [u8], at: usize, file: &[u8]) -> usize
     ensures { λ r. ⌜ spot r (now (out .exit)) ≡ lay (spot at (now (out .entry))) (dump (now (file .entry))) ⌝ }
 {
-    if MOST < file.len() {
+    if LONGEST < file.len() {
         return put_refused(out, at, PsbtError::TooLong);
     }
     let mut pairs = pair_room();
     let mut maps = map_room();
     let mut tx = tx_room();
     put_parsed(out, at, file, &mut pairs, &mut maps, &mut tx)
-}
-
-// Room for the longest file and a byte more.
-pub fn file_room() -> [u8; 65537]
-    ensures { λ r. ⌜ 65537 ≡ length r ⌝ }
-{
-    [0; 65537]
 }
 
 // Room for every dump: none is longer (`dump-fits`).

@@ -14,10 +14,10 @@ use Rattle.format.specs.declared.Psbt.{Psbt}
 use Rattle.format.specs.declared.Numbered.{Numbered}
 use Rattle.format.specs.declared.Parsed.the-variants.{Accepted, Refused}
 use Rattle.format.proofs.Tests.{pick-by}
-use Rattle.text.specs.Limits.{longest, mostMaps}
-use Rattle.dump_text.specs.Dump.{fresh}
-use Rattle.dump_text.proofs.Contents.{zeros-long}
-use Rattle.dump_text.proofs.Sizes.{reports-few}
+use Rattle.rooms.specs.Limits.{longest, mostMaps}
+use Rattle.rooms.specs.Rooms.{fresh}
+use Rattle.rooms.proofs.Zeros.{zeros-long}
+use Rattle.rooms.proofs.Taken.{reports-few}
 use Rattle.reasons.proofs.Sizes.{refused-most}
 use Rattle.lock_lines.proofs.Sizes.{head-most, input-most, verdict-most}
 use Rattle.why_text.specs.Why.{heightAsked, timeAsked, inputsText, answered, acceptedText, parsedText, whyIn, why}

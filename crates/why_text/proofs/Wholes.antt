@@ -21,8 +21,8 @@ use Rattle.format.specs.declared.Parsed.the-variants.{Accepted, Refused}
 use Rattle.format.proofs.Told.{numbered-one, lock-one, parse-out-one, tx-out-one}
 use Rattle.text.specs.Spots.{Spot, spot, lay}
 use Rattle.text.proofs.Lays.{lay-then}
-use Rattle.text.specs.Limits.{longest}
-use Rattle.dump_text.specs.Dump.{pairRoom, mapRoom, txRoom, fresh}
+use Rattle.rooms.specs.Limits.{longest}
+use Rattle.rooms.specs.Rooms.{pairRoom, mapRoom, txRoom, fresh}
 use Rattle.reasons.specs.Reasons.{refusedLine}
 use Rattle.lock_lines.specs.Lines.{headLine, inputLine, verdict}
 use Rattle.why_text.specs.Why.{heightAsked, timeAsked, inputsText, answered, acceptedText, parsedText, whyIn, why}

@@ -11,7 +11,7 @@ use Rattle.format.specs.Transaction.{lockBy, lockDecided}
 use Rattle.text.specs.Say.{say, lines}
 use Rattle.text.specs.Spelled.{digit, decimalIn, decimal}
 use Rattle.utc.specs.Dates.{leap, yearLength, isShort, monthLength, yearFrom, yearOf, monthFrom, monthOf, twoDigits, ymdText, monthText, dayText, hourText, dateText}
-use Rattle.dump_text.specs.Dump.{zeros}
+use Rattle.rooms.specs.Rooms.{zeros}
 use Rattle.reasons.specs.Reasons.{meaning, refusedLine}
 use Rattle.lock_lines.specs.Lines.{heightNumber, timeNumber, lockText, fallbackText, headLine, heightText, timeText, inputLine, lackText, txLine, outcome, fallbackDecided, heightDecided, timeDecided, bothLine, tooGreatLine, tooSmallLine, malformedLine, verdict}
 use Rattle.why_text.specs.Why.{heightAsked, timeAsked, inputsText, answered, acceptedText, parsedText, whyIn, why}

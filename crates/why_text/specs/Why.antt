@@ -13,8 +13,8 @@ use Rattle.format.specs.declared.Psbt.{Psbt}
 use Rattle.format.specs.declared.Numbered.{Numbered}
 use Rattle.format.specs.declared.UnsignedTx.{UnsignedTx}
 use Rattle.format.specs.declared.Parsed.the-variants.{Accepted, Refused}
-use Rattle.text.specs.Limits.{longest}
-use Rattle.dump_text.specs.Dump.{pairRoom, mapRoom, txRoom, fresh}
+use Rattle.rooms.specs.Limits.{longest}
+use Rattle.rooms.specs.Rooms.{pairRoom, mapRoom, txRoom, fresh}
 use Rattle.reasons.specs.Reasons.{refusedLine}
 use Rattle.lock_lines.specs.Lines.{headLine, inputLine, verdict}
 

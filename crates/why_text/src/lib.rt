@@ -1,8 +1,4 @@
 // The text that `why` prints of a file: what its inputs ask of the lock, what decided it, and whether a transaction is given.
-use dump_text::file_room;
-use dump_text::map_room;
-use dump_text::pair_room;
-use dump_text::tx_room;
 use format::Parsed;
 use format::Psbt;
 use format::PsbtError;
@@ -11,6 +7,11 @@ use lock_lines::put_head;
 use lock_lines::put_input;
 use lock_lines::put_verdict;
 use reasons::put_refused;
+use rooms::LONGEST;
+use rooms::file_room;
+use rooms::map_room;
+use rooms::pair_room;
+use rooms::tx_room;
 use typed::input::required_height_locktime;
 use typed::input::required_time_locktime;
 ghost use mathlib.Core.Path.{_≡_};
@@ -18,9 +19,6 @@ ghost use Prim.Native.Nat.{_≤_};
 ghost use lib.ListN.{length, take};
 ghost use Rattle.text.specs.Spots.{spot, lay};
 ghost use Rattle.why_text.specs.Why.{heightAsked, timeAsked, inputsText, acceptedText, whyIn, why};
-
-// The longest file that is read, in bytes.
-const MOST: usize = 65536;
 
 // What all inputs ask for, a line each.
 fn put_inputs(
@@ -97,7 +95,7 @@ fn put_parsed(
 pub fn put_why(out: &mut [u8], at: usize, file: &[u8]) -> usize
     ensures { λ r. ⌜ spot r (now (out .exit)) ≡ lay (spot at (now (out .entry))) (why (now (file .entry))) ⌝ }
 {
-    if MOST < file.len() {
+    if LONGEST < file.len() {
         return put_refused(out, at, PsbtError::TooLong);
     }
     let mut pairs = pair_room();
