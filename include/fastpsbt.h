@@ -1,8 +1,7 @@
 /* Xoshberan, a verified reader of Bitcoin signing files (PSBT version 2), for C.
 
-   The library is the crate `exports`: `rt staticlib exports` proves it and writes
-   target/staticlib/libexports.a. It allocates nothing, keeps nothing between calls, and of C's library needs
-   memset alone.
+   The library is libfastpsbt.a: `./library` in the repository proves it and writes it with this header into
+   target/library. It allocates nothing, keeps nothing between calls, and of C's library needs memset alone.
 
    What is lent. Memory crosses as a pointer and how many items it has: bytes of a file or a buffer, 32-bit
    words of a table, 64-bit words of an answer. `file` is the signing file (up to FASTPSBT_MAX_FILE bytes),
