@@ -13,6 +13,7 @@ use format::ScriptsSet;
 use format::State;
 use format::UnsignedTx;
 use format::Utxo;
+use wire::signed;
 use writer::bits_of;
 ghost use Rattle.format.specs.Told.{flag, maybeValue, toldLooked, toldNumbered, toldListing, toldNth, toldUtxo, toldLock, toldScript, toldSet, toldTx, toldParsed};
 ghost use mathlib.Core.Path.{_≡_};
@@ -82,7 +83,7 @@ pub fn psbt_of(report: &[u64]) -> Psbt
     ensures { λ r. ⌜ r ≡ psbtIn (now (report .entry)) ⌝ }
 {
     Psbt {
-        tx_version: known_so_far::signed((word(report, 1) % 4294967296) as u32),
+        tx_version: signed((word(report, 1) % 4294967296) as u32),
         fallback_locktime: maybe_of(word(report, 2)),
         tx_modifiable: maybe_of(word(report, 3)),
         inputs: word(report, 4),

@@ -17,12 +17,12 @@ use format::PsbtError;
 use format::Ruled;
 use format::Size;
 use keys::is_bare;
+use wire::signed;
 use wire::u32_from_le_bytes;
 use wire::u64_from_compact_size;
 ghost use mathlib.Core.Path.{_≡_};
 ghost use mathlib.Core.Bool.{_&&_};
 ghost use mathlib.Core.List.{[]};
-ghost use Rattle.format.specs.Numbers.{signed};
 ghost use Rattle.format.specs.Content.{sizeValue, outputBy};
 ghost use Rattle.format.specs.Rules.{andThen};
 ghost use Rattle.known_so_far.specs.Walks.{noted, notedCount, notedThere, noteGlobal, noteOutput, note, globalsRule, allThere, versionRule, psbtFrom, flags, closeGlobal, closeOutput, close, finish, start, after, there, atFirst};
@@ -226,17 +226,6 @@ fn check_globals(g: Globals) -> Ruled
         check_version(psbt_version)
     } else {
         Ruled::Refused(PsbtError::MissingCounts)
-    }
-}
-
-// 32 bits read as a signed number.
-pub fn signed(x: u32) -> i32
-    ensures { λ r. ⌜ r ≡ signed x ⌝ }
-{
-    if x < 0x8000_0000 {
-        x as i32
-    } else {
-        (x - 0x8000_0000) as i32 + (-2147483647 - 1)
     }
 }
 
