@@ -28,10 +28,10 @@ use Rattle.claims_reading.specs.Fine.{Rises, Keeps}
 use Rattle.claims_reading.proofs.Rises.{rises-from}
 use Rattle.wire.specs.Leads.{lead}
 use Rattle.wire.proofs.Bounds.{count-read}
-use Rattle.known_so_far.specs.Walks.{notedBy, asNumber, asCount, asThere, noted, notedCount, notedThere, noteGlobal, noteOutput, withGlobals, withSeen, note, noGlobals, unseen, there, allThere, versionRule, globalsRule, psbtFrom, flags, seenRule}
+use Rattle.known_so_far.specs.SoFar.{notedBy, asNumber, asCount, asThere, noted, notedCount, notedThere, noteGlobal, noteOutput, withGlobals, withSeen, note, noGlobals, unseen, there, allThere, versionRule, globalsRule, psbtFrom, flags, seenRule}
 use Rattle.known_so_far.specs.declared.Globals.{Globals}
 use Rattle.known_so_far.specs.declared.Seen.{Seen}
-use Rattle.known_so_far.specs.declared.Walk.{Walk}
+use Rattle.known_so_far.specs.declared.Known.{Known}
 
 -- a field noted along pairs
 unfoldable pub alongBy : {A : Type 0} → (List ℕ → A) → ℕ → List Pair → A → A
@@ -121,7 +121,7 @@ there-along t ps h = along-is asThere t [] ps false h ∙ by (field t ps)
     by (found v) = refl
 
 -- the pairs of a map noted one after the other
-unfoldable pub noteAll : Walk → List Pair → Walk
+unfoldable pub noteAll : Known → List Pair → Known
 noteAll w [] = w
 noteAll w (p ∷ ps) = noteAll (note (p .key) (p .value) w) ps
 
@@ -146,20 +146,20 @@ seenAlong ps o = record {
   label = alongBy asThere 0x0a ps (o .label);
 }
 
-pub note-global : (w : Walk) (key v : List ℕ) → w .kind ≡ GLOBAL → note key v w ≡ withGlobals w (noteGlobal key v (w .globals))
+pub note-global : (w : Known) (key v : List ℕ) → w .kind ≡ GLOBAL → note key v w ≡ withGlobals w (noteGlobal key v (w .globals))
 unfolding note
 note-global w key v k = rw k
 
-pub note-output : (w : Walk) (key v : List ℕ) → w .kind ≡ OUTPUT → note key v w ≡ withSeen w (noteOutput key v (w .seen))
+pub note-output : (w : Known) (key v : List ℕ) → w .kind ≡ OUTPUT → note key v w ≡ withSeen w (noteOutput key v (w .seen))
 unfolding note
 note-output w key v k = rw k
 
-global-all : (w : Walk) (ps : List Pair) → w .kind ≡ GLOBAL → noteAll w ps ≡ withGlobals w (globalsAlong ps (w .globals))
+global-all : (w : Known) (ps : List Pair) → w .kind ≡ GLOBAL → noteAll w ps ≡ withGlobals w (globalsAlong ps (w .globals))
 unfolding noteAll withGlobals globalsAlong alongBy noteGlobal noted notedCount notedThere
 global-all w [] k = refl
 global-all w (p ∷ ps) k = rw (note-global w (p .key) (p .value) k) (global-all (withGlobals w (noteGlobal (p .key) (p .value) (w .globals))) ps k)
 
-output-all : (w : Walk) (ps : List Pair) → w .kind ≡ OUTPUT → noteAll w ps ≡ withSeen w (seenAlong ps (w .seen))
+output-all : (w : Known) (ps : List Pair) → w .kind ≡ OUTPUT → noteAll w ps ≡ withSeen w (seenAlong ps (w .seen))
 unfolding noteAll withSeen seenAlong alongBy noteOutput notedThere
 output-all w [] k = refl
 output-all w (p ∷ ps) k = rw (note-output w (p .key) (p .value) k) (output-all (withSeen w (noteOutput (p .key) (p .value) (w .seen))) ps k)
@@ -177,7 +177,7 @@ foundGlobals ps = record {
   «has_outputs» = present (field 0x05 ps);
 }
 
-pub global-noted : (w : Walk) (ps : List Pair) → w .kind ≡ GLOBAL → w .globals ≡ noGlobals → Rises [] ps → All (Keeps (rule GLOBAL)) ps → noteAll w ps ≡ withGlobals w (foundGlobals ps)
+pub global-noted : (w : Known) (ps : List Pair) → w .kind ≡ GLOBAL → w .globals ≡ noGlobals → Rises [] ps → All (Keeps (rule GLOBAL)) ps → noteAll w ps ≡ withGlobals w (foundGlobals ps)
 unfolding globalsAlong foundGlobals sizes sizesIn isRow rowRule valueFits rule bareRule keyOf typeOf dataOf andThen
 global-noted w ps k g h a =
     global-all w ps k ∙ rw (
@@ -196,16 +196,16 @@ global-noted w ps k g h a =
 unfoldable pub foundSeen : List Pair → Seen
 foundSeen ps = record { script = present (field 0x04 ps); code = present (field 0x09 ps); label = present (field 0x0a ps) }
 
-pub output-noted : (w : Walk) (ps : List Pair) → w .kind ≡ OUTPUT → w .seen ≡ unseen → Rises [] ps → noteAll w ps ≡ withSeen w (foundSeen ps)
+pub output-noted : (w : Known) (ps : List Pair) → w .kind ≡ OUTPUT → w .seen ≡ unseen → Rises [] ps → noteAll w ps ≡ withSeen w (foundSeen ps)
 unfolding seenAlong foundSeen
 output-noted w ps k o h = output-all w ps k ∙ rw (o, there-along 0x04 ps h, there-along 0x09 ps h, there-along 0x0a ps h)
 
 -- an input's pairs are not noted
-note-input : (w : Walk) (key v : List ℕ) → w .kind ≡ INPUT → note key v w ≡ w
+note-input : (w : Known) (key v : List ℕ) → w .kind ≡ INPUT → note key v w ≡ w
 unfolding note
 note-input w key v k = rw (ne-eqb (w .kind) GLOBAL (λ e. omega arith), ne-eqb (w .kind) OUTPUT (λ e. omega arith))
 
-pub input-noted : (w : Walk) (ps : List Pair) → w .kind ≡ INPUT → noteAll w ps ≡ w
+pub input-noted : (w : Known) (ps : List Pair) → w .kind ≡ INPUT → noteAll w ps ≡ w
 unfolding noteAll
 input-noted w [] k = refl
 input-noted w (p ∷ ps) k = rw (note-input w (p .key) (p .value) k) (input-noted w ps k)

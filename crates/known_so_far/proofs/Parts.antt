@@ -26,11 +26,11 @@ use Rattle.format.proofs.Tests.{pick-by}
 use Rattle.keys.proofs.Bare.{bare-not}
 use Rattle.wire.specs.Leads.{lead}
 use Rattle.format.specs.Locks.{orZero}
-use Rattle.known_so_far.specs.Walks.{notedBy, asNumber, asCount, asThere, noted, notedCount, notedThere, noteGlobal, noteOutput, withGlobals, withSeen, note, there, allThere, versionRule, globalsRule, psbtFrom, flags}
+use Rattle.known_so_far.specs.SoFar.{notedBy, asNumber, asCount, asThere, noted, notedCount, notedThere, noteGlobal, noteOutput, withGlobals, withSeen, note, there, allThere, versionRule, globalsRule, psbtFrom, flags}
 use Rattle.known_so_far.proofs.Notes.{note-global, note-output}
 use Rattle.known_so_far.specs.declared.Globals.{Globals}
 use Rattle.known_so_far.specs.declared.Seen.{Seen}
-use Rattle.known_so_far.specs.declared.Walk.{Walk}
+use Rattle.known_so_far.specs.declared.Known.{Known}
 
 -- the value of a compact size
 pub size-bad : (x : Size) (e : PsbtError) → x ≡ Z.Bad e → 0 ≡ sizeValue x
@@ -107,7 +107,7 @@ unfolding noteOutput
 note-seen o key v a b c p q r = λ i. record { script = p i; code = q i; label = r i }
 
 -- what is carried on after a pair
-module _ (w : Walk) (key v : List ℕ) where
+module _ (w : Known) (key v : List ℕ) where
   wide-no : (t : ℕ) → (length key ≡ 1 → ⊥) → same (keyOf t []) key ≡ false
   wide-no t h = sym (bare-not key t h)
 
@@ -115,7 +115,7 @@ module _ (w : Walk) (key v : List ℕ) where
   unfolding note withGlobals withSeen noteGlobal noteOutput noted notedCount notedThere notedBy
   note-wide h =
       sym (rw (wide-no 0x02 h, wide-no 0x03 h, wide-no 0x04 h, wide-no 0x05 h, wide-no 0x06 h, wide-no 0xfb h, wide-no 0x09 h, wide-no 0x0a h)
-      (pick-by (λ (x : Walk). x ≡ w) (eqb (w .kind) GLOBAL) _ _ (λ q. refl) (λ q. pick-by (λ (x : Walk). x ≡ w) (eqb (w .kind) OUTPUT) _ _ (λ t. refl) (λ t. refl))))
+      (pick-by (λ (x : Known). x ≡ w) (eqb (w .kind) GLOBAL) _ _ (λ q. refl) (λ q. pick-by (λ (x : Known). x ≡ w) (eqb (w .kind) OUTPUT) _ _ (λ t. refl) (λ t. refl))))
 
   pub note-g : (g : Globals) → w .kind ≡ GLOBAL → g ≡ noteGlobal key v (w .globals)
       → record { kind = w .kind; globals = g; inputs = w .inputs; outputs = w .outputs; seen = w .seen; ruled = w .ruled } ≡ note key v w
