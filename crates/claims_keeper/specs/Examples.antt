@@ -117,7 +117,10 @@ run-T = runOf fileT _ _ parses-T clock-refused
 -- the lock honours the first file
 pub file-kept : KeptBy (reading fileH) 800_000
 unfolding computes outcome reading insOf
-file-kept = record { met = (honours-meets 800_000 _ (byHeight 800_000 refl tt (omega arith) (omega arith)), tt); honoured = (byHeight 800_000 refl tt (omega arith) (omega arith), tt) }
+file-kept = record {
+  met = (honours-meets 800_000 _ (byHeight 800_000 refl tt (omega arith) (omega arith)), tt);
+  honoured = (byHeight 800_000 refl tt (omega arith) (omega arith), tt);
+}
 
 -- the greatest time of the second is too small
 pub clock-fallen : Fallen (reading fileT)

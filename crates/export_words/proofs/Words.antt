@@ -61,7 +61,8 @@ module _ (A : List ℕ) (n : ℕ) (ws : List ℕ) where
 pub ruleset puts = (too-short, words-fit, words-put)
 
 -- what a parse reported, word by word
-pub report-is : (R : List ℕ) (v a b i o : ℕ) (z : ℤ) (m n : Maybe) → v ≡ getD R 1 0 → z ≡ signed (v % 4294967296) → a ≡ getD R 2 0 → m ≡ maybeOf a → b ≡ getD R 3 0 → n ≡ maybeOf b
+pub report-is : (R : List ℕ) (v a b i o : ℕ) (z : ℤ) (m n : Maybe)
+    → v ≡ getD R 1 0 → z ≡ signed (v % 4294967296) → a ≡ getD R 2 0 → m ≡ maybeOf a → b ≡ getD R 3 0 → n ≡ maybeOf b
     → i ≡ getD R 4 0 → o ≡ getD R 5 0 → record { «tx_version» = z; «fallback_locktime» = m; «tx_modifiable» = n; inputs = i; outputs = o } ≡ psbtIn R
 unfolding psbtIn
 report-is R v a b i o z m n ev ez ea em eb en ei eo = rw (ez, ev, em, ea, en, eb, ei, eo)

@@ -75,7 +75,8 @@ pub row-first : (rs : List SizedType) (k t n m : ℕ) → From rs k t n m 0
 row-first rs k t n m = refl
 
 module _ (rs : List SizedType) (k t n m i : ℕ) (on : From rs k t n m i) where
-  pub row-found : i < length rs → (b : Bool) → b ≡ isRow (getD rs i none) k t → b ≡ true → (r : Ruled) → r ≡ rowRule (getD rs i none) n m → r ≡ sizesIn rs k t n m
+  pub row-found : i < length rs → (b : Bool) → b ≡ isRow (getD rs i none) k t
+      → b ≡ true → (r : Ruled) → r ≡ rowRule (getD rs i none) n m → r ≡ sizesIn rs k t n m
   row-found h b e q r w = w ∙ found rs k t n m i h b e q ∙ on
 
   pub row-passed : i < length rs → (b : Bool) → b ≡ isRow (getD rs i none) k t → b ≡ false → From rs k t n m (i + 1)

@@ -7,7 +7,8 @@ use Rattle.format.specs.Rows.{Row, is, Hold}
 use Rattle.format.specs.Unfolds.{lookups}
 use Rattle.format.specs.Counting.{counts, entry, bytesAt}
 use Rattle.format.specs.Content.{Pair}
-use Rattle.format.specs.Tables.{inFile, Held, no, holds, fitted, held, heldInput, heldOutput, View, hides, shows, viewOf, view, Gathered, unfit, gathered, gather}
+use Rattle.format.specs.Tables.{inFile, Held, no, holds, fitted, held, heldInput, heldOutput, View}
+use Rattle.format.specs.Tables.{hides, shows, viewOf, view, Gathered, unfit, gathered, gather}
 use Rattle.format.specs.declared.PsbtError.the-variants.{OutOfRange, BadIndex}
 
 -- a file of ten bytes, byte number i is i
@@ -198,7 +199,8 @@ maps-show = refl
 unfoldable pub gathers : List (Row Gathered)
 gathers =
     is (gather (view ten three (0 ∷ 1 ∷ 1 ∷ 2 ∷ []) (counts 1 0)) 0 0) (gathered [])
-    ∷ is (gather (view ten three (0 ∷ 1 ∷ 1 ∷ 2 ∷ []) (counts 1 0)) 0 2) (gathered ((pair (3 ∷ []) [] ∷ []) ∷ (pair (5 ∷ []) (0 ∷ 1 ∷ []) ∷ pair (7 ∷ 8 ∷ []) (4 ∷ []) ∷ []) ∷ []))
+    ∷ is (gather (view ten three (0 ∷ 1 ∷ 1 ∷ 2 ∷ []) (counts 1 0)) 0 2)
+    (gathered ((pair (3 ∷ []) [] ∷ []) ∷ (pair (5 ∷ []) (0 ∷ 1 ∷ []) ∷ pair (7 ∷ 8 ∷ []) (4 ∷ []) ∷ []) ∷ []))
     ∷ is (gather (view ten three (0 ∷ 1 ∷ 1 ∷ 2 ∷ []) (counts 1 0)) 1 1) (gathered ((pair (5 ∷ []) (0 ∷ 1 ∷ []) ∷ pair (7 ∷ 8 ∷ []) (4 ∷ []) ∷ []) ∷ []))
     ∷ is (gather (view ten three (0 ∷ 1 ∷ 3 ∷ 0 ∷ []) (counts 1 0)) 0 2) (gathered ((pair (3 ∷ []) [] ∷ []) ∷ [] ∷ []))
     ∷ is (gather (view ten three (0 ∷ 1 ∷ 1 ∷ 2 ∷ []) (counts 1 0)) 0 3) (unfit OutOfRange)

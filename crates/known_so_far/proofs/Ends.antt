@@ -10,7 +10,8 @@ use Rattle.format.specs.declared.PsbtError.the-variants.{UnexpectedEof}
 use Rattle.format.specs.declared.Ruled.{Ruled}
 use Rattle.format.specs.declared.Ruled.the-variants.{Passed, Refused}
 use Rattle.format.specs.declared.Psbt.{Psbt}
-use Rattle.known_so_far.specs.SoFar.{unseen, globalsRule, psbtFrom, flags, seenRule, closeGlobal, closeOutput, close, finishBy, finish, anInput, anOutput, start, afterBy, after}
+use Rattle.known_so_far.specs.SoFar.{unseen, globalsRule, psbtFrom, flags, seenRule, closeGlobal, closeOutput}
+use Rattle.known_so_far.specs.SoFar.{close, finishBy, finish, anInput, anOutput, start, afterBy, after}
 use Rattle.known_so_far.specs.declared.Known.{Known}
 use Rattle.known_so_far.specs.declared.Closed.{Closed}
 use Rattle.known_so_far.specs.declared.Closed.the-variants.{Bad, Good}
@@ -35,14 +36,22 @@ module _ (w : Known) (y : Ruled) (is : y ≡ globalsRule (w .globals)) where
   close-bad e h = sym (ap (closeGlobal w) (sym is ∙ h))
 
   pub close-good : y ≡ Passed
-      → Good (record { kind = w .kind; globals = w .globals; inputs = w .globals .«n_inputs»; outputs = w .globals .«n_outputs»; seen = w .seen; ruled = w .ruled }) ≡ closeGlobal w (globalsRule (w .globals))
+      → Good (record {
+        kind = w .kind;
+        globals = w .globals;
+        inputs = w .globals .«n_inputs»;
+        outputs = w .globals .«n_outputs»;
+        seen = w .seen;
+        ruled = w .ruled;
+      }) ≡ closeGlobal w (globalsRule (w .globals))
   unfolding closeGlobal
   close-good h = sym (ap (closeGlobal w) (sym is ∙ h))
 
 pub ruleset closeGlobals = (close-bad, close-good)
 
 -- where an output ended
-pub close-seen : (w : Known) (x y : Ruled) → x ≡ outputBy (flags (w .globals .«tx_modifiable»)) (w .seen .script) (w .seen .code) (w .seen .label) → y ≡ andThen (w .ruled) x
+pub close-seen : (w : Known) (x y : Ruled) → x ≡ outputBy (flags (w .globals .«tx_modifiable»)) (w .seen .script) (w .seen .code) (w .seen .label)
+    → y ≡ andThen (w .ruled) x
     → record { kind = w .kind; globals = w .globals; inputs = w .inputs; outputs = w .outputs; seen = w .seen; ruled = y } ≡ closeOutput w
 unfolding closeOutput seenRule
 close-seen w x y p q =
@@ -78,11 +87,13 @@ module _ (w : Known) (left : Bool) where
   unfolding finish finishBy
   one-refused e h k = sym (rw (h, k))
 
-  pub next-input : 0 < w .inputs → Map (record { kind = INPUT; globals = w .globals; inputs = w .inputs - 1; outputs = w .outputs; seen = w .seen; ruled = w .ruled }) ≡ start w left
+  pub next-input : 0 < w .inputs
+      → Map (record { kind = INPUT; globals = w .globals; inputs = w .inputs - 1; outputs = w .outputs; seen = w .seen; ruled = w .ruled }) ≡ start w left
   unfolding start anInput
   next-input h = sym (rw (lt-ltb 0 (w .inputs) h))
 
-  pub next-output : w .inputs ≤ 0 → 0 < w .outputs → Map (record { kind = OUTPUT; globals = w .globals; inputs = w .inputs; outputs = w .outputs - 1; seen = unseen; ruled = w .ruled }) ≡ start w left
+  pub next-output : w .inputs ≤ 0 → 0 < w .outputs
+      → Map (record { kind = OUTPUT; globals = w .globals; inputs = w .inputs; outputs = w .outputs - 1; seen = unseen; ruled = w .ruled }) ≡ start w left
   unfolding start anOutput
   next-output h k = sym (rw (le-ltb 0 (w .inputs) h, lt-ltb 0 (w .outputs) k))
 

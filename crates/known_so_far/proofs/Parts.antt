@@ -26,7 +26,8 @@ use Rattle.format.proofs.Tests.{pick-by}
 use Rattle.keys.proofs.Bare.{bare-not}
 use Rattle.wire.specs.Leads.{lead}
 use Rattle.format.specs.Locks.{orZero}
-use Rattle.known_so_far.specs.SoFar.{notedBy, asNumber, asCount, asThere, noted, notedCount, notedThere, noteGlobal, noteOutput, withGlobals, withSeen, note, there, allThere, versionRule, globalsRule, psbtFrom, flags}
+use Rattle.known_so_far.specs.SoFar.{notedBy, asNumber, asCount, asThere, noted, notedCount, notedThere, noteGlobal, noteOutput}
+use Rattle.known_so_far.specs.SoFar.{withGlobals, withSeen, note, there, allThere, versionRule, globalsRule, psbtFrom, flags}
 use Rattle.known_so_far.proofs.Notes.{note-global, note-output}
 use Rattle.known_so_far.specs.declared.Globals.{Globals}
 use Rattle.known_so_far.specs.declared.Seen.{Seen}
@@ -96,12 +97,31 @@ pub note-fields : (g : Globals) (key v : List ℕ) (a b : Maybe) (c d : ℕ) (e 
     → a ≡ noted 0x02 key v (g .«tx_version») → b ≡ noted 0x03 key v (g .«fallback_locktime») → c ≡ notedCount 0x04 key v (g .«n_inputs»)
     → d ≡ notedCount 0x05 key v (g .«n_outputs») → e ≡ noted 0x06 key v (g .«tx_modifiable») → f ≡ noted 0xfb key v (g .«psbt_version»)
     → x ≡ notedThere 0x04 key [] (g .«has_inputs») → y ≡ notedThere 0x05 key [] (g .«has_outputs»)
-    → record { «tx_version» = a; «fallback_locktime» = b; «n_inputs» = c; «n_outputs» = d; «tx_modifiable» = e; «psbt_version» = f; «has_inputs» = x; «has_outputs» = y } ≡ noteGlobal key v g
+    → record {
+      «tx_version» = a;
+      «fallback_locktime» = b;
+      «n_inputs» = c;
+      «n_outputs» = d;
+      «tx_modifiable» = e;
+      «psbt_version» = f;
+      «has_inputs» = x;
+      «has_outputs» = y;
+    } ≡ noteGlobal key v g
 unfolding noteGlobal notedThere notedBy asThere
 note-fields g key v a b c d e f x y p q r s t u m n =
-    λ i. record { «tx_version» = p i; «fallback_locktime» = q i; «n_inputs» = r i; «n_outputs» = s i; «tx_modifiable» = t i; «psbt_version» = u i; «has_inputs» = m i; «has_outputs» = n i }
+    λ i. record {
+      «tx_version» = p i;
+      «fallback_locktime» = q i;
+      «n_inputs» = r i;
+      «n_outputs» = s i;
+      «tx_modifiable» = t i;
+      «psbt_version» = u i;
+      «has_inputs» = m i;
+      «has_outputs» = n i;
+    }
 
-pub note-seen : (o : Seen) (key v : List ℕ) (a b c : Bool) → a ≡ notedThere 0x04 key v (o .script) → b ≡ notedThere 0x09 key v (o .code) → c ≡ notedThere 0x0a key v (o .label)
+pub note-seen : (o : Seen) (key v : List ℕ) (a b c : Bool)
+    → a ≡ notedThere 0x04 key v (o .script) → b ≡ notedThere 0x09 key v (o .code) → c ≡ notedThere 0x0a key v (o .label)
     → record { script = a; code = b; label = c } ≡ noteOutput key v o
 unfolding noteOutput
 note-seen o key v a b c p q r = λ i. record { script = p i; code = q i; label = r i }
@@ -115,7 +135,8 @@ module _ (w : Known) (key v : List ℕ) where
   unfolding note withGlobals withSeen noteGlobal noteOutput noted notedCount notedThere notedBy
   note-wide h =
       sym (rw (wide-no 0x02 h, wide-no 0x03 h, wide-no 0x04 h, wide-no 0x05 h, wide-no 0x06 h, wide-no 0xfb h, wide-no 0x09 h, wide-no 0x0a h)
-      (pick-by (λ (x : Known). x ≡ w) (eqb (w .kind) GLOBAL) _ _ (λ q. refl) (λ q. pick-by (λ (x : Known). x ≡ w) (eqb (w .kind) OUTPUT) _ _ (λ t. refl) (λ t. refl))))
+      (pick-by (λ (x : Known). x ≡ w) (eqb (w .kind) GLOBAL) _ _
+      (λ q. refl) (λ q. pick-by (λ (x : Known). x ≡ w) (eqb (w .kind) OUTPUT) _ _ (λ t. refl) (λ t. refl))))
 
   pub note-g : (g : Globals) → w .kind ≡ GLOBAL → g ≡ noteGlobal key v (w .globals)
       → record { kind = w .kind; globals = g; inputs = w .inputs; outputs = w .outputs; seen = w .seen; ruled = w .ruled } ≡ note key v w
@@ -194,9 +215,21 @@ pub ruleset outputs = (out-none, out-code, out-script, out-label, out-flags, out
 
 -- what is reported
 pub report : (g : Globals) (n : ℕ) (z : ℤ) → n ≡ orZero (g .«tx_version») → z ≡ signed n
-    → record { «tx_version» = z; «fallback_locktime» = g .«fallback_locktime»; «tx_modifiable» = g .«tx_modifiable»; inputs = g .«n_inputs»; outputs = g .«n_outputs» } ≡ psbtFrom g
+    → record {
+      «tx_version» = z;
+      «fallback_locktime» = g .«fallback_locktime»;
+      «tx_modifiable» = g .«tx_modifiable»;
+      inputs = g .«n_inputs»;
+      outputs = g .«n_outputs»;
+    } ≡ psbtFrom g
 unfolding psbtFrom
-report g n z p q = λ j. record { «tx_version» = (q ∙ ap signed p) j; «fallback_locktime» = g .«fallback_locktime»; «tx_modifiable» = g .«tx_modifiable»; inputs = g .«n_inputs»; outputs = g .«n_outputs» }
+report g n z p q = λ j. record {
+  «tx_version» = (q ∙ ap signed p) j;
+  «fallback_locktime» = g .«fallback_locktime»;
+  «tx_modifiable» = g .«tx_modifiable»;
+  inputs = g .«n_inputs»;
+  outputs = g .«n_outputs»;
+}
 
 -- the two low flags
 pub low-flags : (m : Maybe) (n : ℕ) → n ≡ orZero m → not (eqb (bitAnd n 3) 0) ≡ flags m

@@ -152,7 +152,14 @@ closeGlobal w Passed =
 
 -- where an output ends
 unfoldable pub closeOutput : Known → Known
-closeOutput w = record { kind = w .kind; globals = w .globals; inputs = w .inputs; outputs = w .outputs; seen = w .seen; ruled = andThen (w .ruled) (seenRule (w .globals) (w .seen)) }
+closeOutput w = record {
+  kind = w .kind;
+  globals = w .globals;
+  inputs = w .inputs;
+  outputs = w .outputs;
+  seen = w .seen;
+  ruled = andThen (w .ruled) (seenRule (w .globals) (w .seen));
+}
 
 -- where the map that is read ends
 unfoldable pub close : Known → Closed

@@ -25,7 +25,8 @@ ghost use mathlib.Core.Bool.{_&&_};
 ghost use mathlib.Core.List.{[]};
 ghost use Rattle.format.specs.Content.{sizeValue, outputBy};
 ghost use Rattle.format.specs.Rules.{andThen};
-ghost use Rattle.known_so_far.specs.SoFar.{noted, notedCount, notedThere, noteGlobal, noteOutput, note, globalsRule, allThere, versionRule, psbtFrom, flags, closeGlobal, closeOutput, close, finish, start, after, there, atFirst};
+ghost use Rattle.known_so_far.specs.SoFar.{noted, notedCount, notedThere, noteGlobal, noteOutput, note, globalsRule, allThere, versionRule};
+ghost use Rattle.known_so_far.specs.SoFar.{psbtFrom, flags, closeGlobal, closeOutput, close, finish, start, after, there, atFirst};
 
 // What is known of the global map: its fields without key data. An absent count is 0 and has its flag unset; the flags
 // stand behind the wider fields.

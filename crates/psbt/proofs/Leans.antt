@@ -10,7 +10,8 @@ use lib.ListN.{length, length-append}
 use Rattle.format.specs.Tests.{pick}
 use Rattle.format.specs.Rules.{andThen, rule, GLOBAL, INPUT, OUTPUT}
 use Rattle.format.specs.Content.{Pair, Map, field, counted, psbtOf, globalRule, modifiable, outputRule, outputsRule}
-use Rattle.format.specs.Reading.{FieldRule, Item, stop, over, one, item, Mapped, ends, stops, front, turn, items, mapped, Reading, pairEvents, mapEvents, mapsEvents, unless, two, lastly, globalThen}
+use Rattle.format.specs.Reading.{FieldRule, Item, stop, over, one, item, Mapped, ends, stops, front, turn, items, mapped}
+use Rattle.format.specs.Reading.{Reading, pairEvents, mapEvents, mapsEvents, unless, two, lastly, globalThen}
 use Rattle.format.specs.Reading as R
 use Rattle.format.specs.Entries.{pairWords, mapWords, hasRoom, putPair, putMap, entryOf, width}
 use Rattle.format.specs.Parse.{ParseOut, out, cut}
@@ -25,12 +26,14 @@ use Rattle.format.proofs.Numbers.{All}
 use Rattle.claims_reading.specs.Fine.{Rises, Keeps}
 use Rattle.claims_reading.proofs.Items.{ItemIs, item-is}
 use Rattle.claims_reading.proofs.Files.{pair-some}
-use Rattle.known_so_far.specs.SoFar.{note, withGlobals, withSeen, atFirst, globalsRule, psbtFrom, closeGlobal, closeOutput, close, finishBy, finish, anInput, anOutput, start, afterBy, after}
+use Rattle.known_so_far.specs.SoFar.{note, withGlobals, withSeen, atFirst, globalsRule, psbtFrom, closeGlobal, closeOutput}
+use Rattle.known_so_far.specs.SoFar.{close, finishBy, finish, anInput, anOutput, start, afterBy, after}
 use Rattle.psbt.specs.Leans.{Lean, done, refusal, begins, pair, ended, lean, cutLean, left, goOn, walkTurn, go, walk}
 use Rattle.known_so_far.specs.declared.Known.{Known}
 use Rattle.known_so_far.specs.declared.Next.{Next}
 use Rattle.known_so_far.specs.declared.Next.the-variants.{Stop, Done, Map as More}
-use Rattle.known_so_far.proofs.Notes.{noteAll, foundGlobals, foundSeen, global-noted, output-noted, input-noted, psbt-from, global-rule, seen-rule, inputs-counted, outputs-counted}
+use Rattle.known_so_far.proofs.Notes.{noteAll, foundGlobals, foundSeen, global-noted, output-noted, input-noted}
+use Rattle.known_so_far.proofs.Notes.{psbt-from, global-rule, seen-rule, inputs-counted, outputs-counted}
 
 pub cut-lean : (at p m i : ℕ) (P M : List ℕ) (r : Reading) → cut at p m i P M r ≡ cutLean at p m i P M (lean r)
 unfolding cut cutLean lean
@@ -38,7 +41,8 @@ cut-lean at p m i P M (R.done c) = refl
 cut-lean at p m i P M (R.refusal e) = refl
 cut-lean at p m i P M (R.begins r) = ap (λ (o : ParseOut). pick (hasRoom mapWords m M) o (out (A.Refused MapsFull p m) P M)) (cut-lean at p m i P M r)
 cut-lean at p m i P M (R.pair q r) =
-    ap (λ (o : ParseOut). pick (hasRoom pairWords p P) o (out (A.Refused PairsFull p m) P M)) (cut-lean (at + width q) (p + 1) m i (putPair P p (entryOf at q)) M r)
+    ap (λ (o : ParseOut). pick (hasRoom pairWords p P) o (out (A.Refused PairsFull p m) P M))
+    (cut-lean (at + width q) (p + 1) m i (putPair P p (entryOf at q)) M r)
 cut-lean at p m i P M (R.ended a r) = cut-lean (at + length a) p (m + 1) p P (putMap M m (record { first = i; count = p - i })) r
 
 -- an item takes a byte, so more turns than bytes are enough
@@ -60,7 +64,8 @@ over-less ρ last s a r w =
 one-less : (ρ : FieldRule) (last s : List ℕ) (p : Pair) (r : List ℕ) → ItemIs ρ last s (one p r) → length r < length s
 one-less ρ last s p r w = omega (arith, pair-some p r (w .framed), ap length (w .is))
 
-turn-same : (w : Known) (ρ : FieldRule) (last s : List ℕ) (i j : Known → List ℕ → List ℕ → Lean) → Alike s i j → (o : Item) → ItemIs ρ last s o → walkTurn i w o ≡ walkTurn j w o
+turn-same : (w : Known) (ρ : FieldRule) (last s : List ℕ) (i j : Known → List ℕ → List ℕ → Lean)
+    → Alike s i j → (o : Item) → ItemIs ρ last s o → walkTurn i w o ≡ walkTurn j w o
 unfolding walkTurn
 turn-same w ρ last s i j h (stop e) x = refl
 turn-same w ρ last s i j h (over a r) x = ap (ended a) (goOn-same s r i j h (over-less ρ last s a r x) (after w (left r)))
@@ -71,12 +76,14 @@ unfolding go
 fuel zero g w last s a b = absurd (omega arith)
 fuel (suc f) zero w last s a b = absurd (omega arith)
 fuel (suc f) (suc g) w last s a b =
-    turn-same w (rule (w .kind)) last s (go f) (go g) (λ v l t h. fuel f g v l t (omega arith) (omega arith)) (item (rule (w .kind)) last s) (item-is (rule (w .kind)) last s)
+    turn-same w (rule (w .kind)) last s (go f) (go g) (λ v l t h. fuel f g v l t (omega arith) (omega arith))
+    (item (rule (w .kind)) last s) (item-is (rule (w .kind)) last s)
 
 pub walk-turn : (w : Known) (last s : List ℕ) → walk w last s ≡ walkTurn walk w (item (rule (w .kind)) last s)
 unfolding walk go
 walk-turn w last s =
-    turn-same w (rule (w .kind)) last s (go (length s)) walk (λ v l t h. fuel (length s) (suc (length t)) v l t h (omega arith)) (item (rule (w .kind)) last s) (item-is (rule (w .kind)) last s)
+    turn-same w (rule (w .kind)) last s (go (length s)) walk
+    (λ v l t h. fuel (length s) (suc (length t)) v l t h (omega arith)) (item (rule (w .kind)) last s) (item-is (rule (w .kind)) last s)
 
 -- in a map: the definition's events are the walk's, if they are behind it
 kind-note : (key v : List ℕ) (w : Known) → note key v w .kind ≡ w .kind
@@ -86,7 +93,8 @@ kind-note key v w =
     (λ q. pick-by (λ (x : Known). x .kind ≡ w .kind) (eqb (w .kind) OUTPUT) _ _ (λ t. refl) (λ t. refl))
 
 abbrev Behind : (Map → List ℕ → Reading) → Known → List ℕ → List ℕ → Type 0
-Behind j w last s = (ps : List Pair) (a r : List ℕ) → Rises last ps → All (Keeps (rule (w .kind))) ps → lean (j (record { pairs = ps; end = a }) r) ≡ goOn walk r (after (noteAll w ps) (left r))
+Behind j w last s = (ps : List Pair) (a r : List ℕ) → Rises last ps
+    → All (Keeps (rule (w .kind))) ps → lean (j (record { pairs = ps; end = a }) r) ≡ goOn walk r (after (noteAll w ps) (left r))
 
 front-events : (j : Map → List ℕ → Reading) (p : Pair) (o : Mapped)
     → mapEvents j (front p o) ≡ R.pair p (mapEvents (λ m r. j (record { pairs = p ∷ m .pairs; end = m .end }) r) o)
@@ -94,13 +102,15 @@ unfolding mapEvents front pairEvents
 front-events j p (stops ps e) = refl
 front-events j p (ends ps a r) = refl
 
-in-map : (n : ℕ) (w : Known) (last s : List ℕ) (j : Map → List ℕ → Reading) → length s < n → Behind j w last s → lean (mapEvents j (items n (rule (w .kind)) last s)) ≡ walk w last s
+in-map : (n : ℕ) (w : Known) (last s : List ℕ) (j : Map → List ℕ → Reading)
+    → length s < n → Behind j w last s → lean (mapEvents j (items n (rule (w .kind)) last s)) ≡ walk w last s
 unfolding items
 in-map zero w last s j l h = absurd (omega arith)
 in-map (suc n) w last s j l h =
     by (λ v t r i. in-map n v t r i) (item (rule (w .kind)) last s) (item-is (rule (w .kind)) last s) ∙ sym (walk-turn w last s)
   where
-    by : ((v : Known) (t r : List ℕ) (i : Map → List ℕ → Reading) → length r < n → Behind i v t r → lean (mapEvents i (items n (rule (v .kind)) t r)) ≡ walk v t r)
+    by : ((v : Known) (t r : List ℕ) (i : Map → List ℕ → Reading)
+        → length r < n → Behind i v t r → lean (mapEvents i (items n (rule (v .kind)) t r)) ≡ walk v t r)
         → (o : Item) → ItemIs (rule (w .kind)) last s o → lean (mapEvents j (turn (items n (rule (w .kind))) o)) ≡ walkTurn walk w o
     by more (stop e) x = unfold turn mapEvents pairEvents lean walkTurn in refl
     by more (over a r) x = unfold turn mapEvents pairEvents lean walkTurn noteAll in ap (ended a) (h [] a r tt tt)
@@ -108,7 +118,8 @@ in-map (suc n) w last s j l h =
         let m = one-less (rule (w .kind)) last s p r x in
         unfold turn walkTurn lean noteAll in
         (ap lean (front-events j p (items n (rule (w .kind)) (p .key) r))
-        ∙ ap (pair p) (ap (λ (k : ℕ). lean (mapEvents (λ m r. j (record { pairs = p ∷ m .pairs; end = m .end }) r) (items n (rule k) (p .key) r))) (sym (kind-note (p .key) (p .value) w))
+        ∙ ap (pair p) (ap (λ (k : ℕ). lean (mapEvents (λ m r. j (record { pairs = p ∷ m .pairs; end = m .end }) r) (items n (rule k) (p .key) r)))
+        (sym (kind-note (p .key) (p .value) w))
         ∙ more (note (p .key) (p .value) w) (p .key) r (λ m r. j (record { pairs = p ∷ m .pairs; end = m .end }) r) (omega arith)
         (λ ps a q R K. h (p ∷ ps) a q (x .rises, R) (x .keeps, subst (λ (k : ℕ). All (Keeps (rule k)) ps) (kind-note (p .key) (p .value) w) K))))
 
@@ -205,7 +216,8 @@ inputs-are (suc n) w s j i h =
     ∙ sym (ap (goOn walk r) (ap (λ (z : Known). after z (left r)) (input-noted (anInput w) ps refl) ∙ after-input (anInput w) (left r) refl))))
     ∙ sym (ap (goOn walk s) (start-input w (left s) n i))
 
-lastly-ends : (g : Map) (is os : List Map) (x : List ℕ) → lean (lastly two g is os x) ≡ endsBy (psbtOf (g .pairs)) (outputsRule (modifiable (field 0x06 (g .pairs))) os) x
+lastly-ends : (g : Map) (is os : List Map) (x : List ℕ)
+    → lean (lastly two g is os x) ≡ endsBy (psbtOf (g .pairs)) (outputsRule (modifiable (field 0x06 (g .pairs))) os) x
 unfolding lastly lean
 lastly-ends g is os (b ∷ x) = by (outputsRule (modifiable (field 0x06 (g .pairs))) os)
   where
@@ -223,20 +235,25 @@ after-global : (w : Known) (b : Bool) → w .kind ≡ GLOBAL → after w b ≡ a
 unfolding after close
 after-global w b k = rw k
 
-global-are : (ps : List Pair) (a r : List ℕ) → Rises [] ps → All (Keeps (rule GLOBAL)) ps → lean (globalThen two (record { pairs = ps; end = a }) r) ≡ goOn walk r (after (noteAll atFirst ps) (left r))
+global-are : (ps : List Pair) (a r : List ℕ) → Rises [] ps → All (Keeps (rule GLOBAL)) ps
+    → lean (globalThen two (record { pairs = ps; end = a }) r) ≡ goOn walk r (after (noteAll atFirst ps) (left r))
 unfolding globalThen andThen withGlobals
 global-are ps a r R K =
-    by (globalRule ps) refl ∙ sym (ap (goOn walk r) (ap (λ (z : Known). after z (left r)) (global-noted atFirst ps refl refl R K) ∙ after-global w (left r) refl))
+    by (globalRule ps) refl
+    ∙ sym (ap (goOn walk r) (ap (λ (z : Known). after z (left r)) (global-noted atFirst ps refl refl R K) ∙ after-global w (left r) refl))
   where
     w : Known
     w = withGlobals atFirst (foundGlobals ps)
 
-    by : (y : Ruled) → globalRule ps ≡ y → lean (unless y (mapsEvents (rule INPUT) (counted (field 0x04 ps)) r (λ is q. mapsEvents (rule OUTPUT) (counted (field 0x05 ps)) q (λ os x. lastly two (record { pairs = ps; end = a }) is os x)))) ≡ goOn walk r (afterBy (left r) (closeGlobal w (globalsRule (foundGlobals ps))))
+    by : (y : Ruled) → globalRule ps ≡ y → lean (unless y (mapsEvents (rule INPUT) (counted (field 0x04 ps)) r
+        (λ is q. mapsEvents (rule OUTPUT) (counted (field 0x05 ps)) q (λ os x. lastly two (record { pairs = ps; end = a }) is os x))))
+        ≡ goOn walk r (afterBy (left r) (closeGlobal w (globalsRule (foundGlobals ps))))
     by (Refused e) q = unfold unless lean goOn in rw (global-rule ps, q) (unfold closeGlobal afterBy in refl)
     by Passed q = unfold unless in rw (global-rule ps, q) (unfold closeGlobal afterBy withGlobals in
         inputs-are _ _ r _ (inputs-counted ps)
         (λ is x v z e. outputs-are ps _ v x _ z (e .outputs ∙ outputs-counted ps) (e .globals)
-        (λ os y. lastly-ends (record { pairs = ps; end = a }) is os y ∙ ap (λ (u : Ruled). endsBy (psbtOf ps) (andThen u (outputsRule (modifiable (field 0x06 ps)) os)) y) (sym (e .ruled)))))
+        (λ os y. lastly-ends (record { pairs = ps; end = a }) is os y
+        ∙ ap (λ (u : Ruled). endsBy (psbtOf ps) (andThen u (outputsRule (modifiable (field 0x06 ps)) os)) y) (sym (e .ruled)))))
 
 -- a file's maps
 pub maps-walked : (s : List ℕ) → lean (mapEvents (globalThen two) (mapped (rule GLOBAL) s)) ≡ walk atFirst [] s

@@ -59,13 +59,16 @@ notedAt F w e = note (between F (e .key) (e .key + e .klen)) (between F (e .valu
 -- by a step
 unfoldable pub stepCut : List ℕ → List ℕ → List ℕ → ℕ → Known → ℕ → ℕ → Step → ParseOut
 stepCut F P M m w p i (Stop e) = out (A.Refused e p m) P M
-stepCut F P M m w p i (Over to) = cutLean to p (m + 1) p P (putMap M m (record { first = i; count = p - i })) (goOn walk (drop to F) (after w (left (drop to F))))
+stepCut F P M m w p i (Over to) =
+    cutLean to p (m + 1) p P (putMap M m (record { first = i; count = p - i })) (goOn walk (drop to F) (after w (left (drop to F))))
 stepCut F P M m w p i (One e) =
-    pick (hasRoom pairWords p P) (inMap F (putPair P p e) M m (notedAt F w e) (e .value + e .vlen) (p + 1) (e .key) (e .key + e .klen) i) (out (A.Refused PairsFull p m) P M)
+    pick (hasRoom pairWords p P) (inMap F (putPair P p e) M m (notedAt F w e) (e .value + e .vlen) (p + 1) (e .key) (e .key + e .klen) i)
+    (out (A.Refused PairsFull p m) P M)
 
 -- a step is what the walk does
 module _ (F P M : List ℕ) (m : ℕ) (w : Known) (at p i : ℕ) (last : List ℕ) where
-  by-item : (z : Item) → z ≡ itemOf (w .kind) last (drop at F) → cutLean at p m i P M (walkTurn walk w (shown (drop at F) z)) ≡ stepCut F P M m w p i (stepBy at z)
+  by-item : (z : Item) → z ≡ itemOf (w .kind) last (drop at F)
+      → cutLean at p m i P M (walkTurn walk w (shown (drop at F) z)) ≡ stepCut F P M m w p i (stepBy at z)
   unfolding walkTurn shown stepBy stepCut cutLean
   by-item (I.Stop e) h = refl
   by-item (I.Over u) h =
@@ -75,7 +78,16 @@ module _ (F P M : List ℕ) (m : ℕ) (w : Known) (at p i : ℕ) (last : List �
       let n = one-in (w .kind) last (drop at F) (I.One a l b v) h a l b v refl in
       let s : at + (b + v) ≡ at + b + v = omega arith in
       ap (λ (x : ParseOut). pick (hasRoom pairWords p P) x (out (A.Refused PairsFull p m) P M))
-      (rw (width-is (drop at F) a l b v n, entry-is (drop at F) a l b v n at, drop-drop (b + v) at F, s, add-sub-cancel-left (at + a) l, add-sub-cancel-left (at + b) v, ← drop-drop a at F, ← drop-drop b at F) (unfold pairAt in refl))
+      (rw (
+        width-is (drop at F) a l b v n,
+        entry-is (drop at F) a l b v n at,
+        drop-drop (b + v) at F,
+        s,
+        add-sub-cancel-left (at + a) l,
+        add-sub-cancel-left (at + b) v,
+        ← drop-drop a at F,
+        ← drop-drop b at F,
+      ) (unfold pairAt in refl))
 
   pub turned : cutLean at p m i P M (walk w last (drop at F)) ≡ stepCut F P M m w p i (stepAt (drop at F) last at (w .kind))
   unfolding stepAt
@@ -185,7 +197,8 @@ module _ (F P₁ M : List ℕ) (w₁ : Known) (at₁ p₁ m : ℕ) (P : List ℕ
 
   in-file : (y : Step) → o ≡ y → StepIn F at y
   in-file y e =
-      subst (StepIn F at) (ap (λ (s : List ℕ). stepAt s (between F la le) at (w .kind)) (sym (part-rest at F)) ∙ sym is ∙ e) (step-in F at (w .kind) (between F la le) (i .at≤))
+      subst (StepIn F at) (ap (λ (s : List ℕ). stepAt s (between F la le) at (w .kind)) (sym (part-rest at F))
+      ∙ sym is ∙ e) (step-in F at (w .kind) (between F la le) (i .at≤))
 
   pub over-less : (to : ℕ) → o ≡ Over to → length F - to < length F - at₁
   over-less to e = omega (arith, in-file (Over to) e, i .at₁≤)
@@ -263,7 +276,8 @@ module _ (F P₁ M : List ℕ) (w₁ : Known) (at₁ p₁ m : ℕ) (P : List ℕ
     unfolding hasRoom
     map-more l = record { fits = omega (arith, leb-true (m * mapWords + mapWords) (length M) (room-yes b (hasRoom mapWords m M) t n)) }
 
-    module _ (to : ℕ) (q : o ≡ Over to) (M′ : List ℕ) (u : M′ ≡ putMap M m (record { first = p₁; count = p - p₁ })) (x : Next) (it : x ≡ after w (ltb to (length F))) where
+    module _ (to : ℕ) (q : o ≡ Over to) (M′ : List ℕ) (u : M′ ≡ putMap M m (record { first = p₁; count = p - p₁ }))
+        (x : Next) (it : x ≡ after w (ltb to (length F))) where
       behind : (y : Next) → x ≡ y → cutLean to p (m + 1) p P M′ (goOn walk (drop to F) y) ≡ mapsRead F P₀ M₀
       unfolding stepCut
       behind y e =

@@ -169,7 +169,8 @@ fn has_magic(file: &[u8]) -> bool
 // Parses a file into a pair table and a map table. Each entry is told by the definitions; both tables keep everything
 // that is not an entry of a pair accepted or of a map ended.
 pub fn parse(file: &[u8], pairs: &mut [u32], maps: &mut [u32]) -> Parsed
-    ensures { λ r. ⌜ toldWith (toldParsed r) (now (pairs .exit)) (now (maps .exit)) ≡ toldParse (parsed (now (file .entry)) (now (pairs .entry)) (now (maps .entry))) ⌝ }
+    ensures { λ r. ⌜ toldWith (toldParsed r) (now (pairs .exit)) (now (maps .exit))
+        ≡ toldParse (parsed (now (file .entry)) (now (pairs .entry)) (now (maps .entry))) ⌝ }
 {
     if LIMIT < file.len() {
         return Parsed::Refused {

@@ -62,7 +62,8 @@ other (negsuc n) f h = never-true (sym h)
 
 module _ (z : ℤ) (f : SFits w32 z) (h : ltZ (toZ w32 (ofZ w32 z)) (pos 0) ≡ false) where
   is-other : T (nonNeg (toZ w32 (ofZ w32 z))) × Fits w64 (natAbs (toZ w32 (ofZ w32 z))) × (natAbs (toZ w32 (ofZ w32 z)) ≡ unsigned z)
-  is-other = subst (λ (y : ℤ). T (nonNeg y) × Fits w64 (natAbs y) × (natAbs y ≡ unsigned z)) (sym (held z f)) (other z f (subst (λ (y : ℤ). ltZ y (pos 0) ≡ false) (held z f) h))
+  is-other = subst (λ (y : ℤ). T (nonNeg y) × Fits w64 (natAbs y) × (natAbs y ≡ unsigned z))
+      (sym (held z f)) (other z f (subst (λ (y : ℤ). ltZ y (pos 0) ≡ false) (held z f) h))
 
   pub keeps : T (nonNeg (toZ w32 (ofZ w32 z))) × Fits w64 (natAbs (toZ w32 (ofZ w32 z)))
   keeps = (is-other .0, is-other .1)
