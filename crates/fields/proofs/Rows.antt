@@ -23,7 +23,7 @@ module _ (r : SizedType) (n m : ℕ) where
   unfolding isKept
   kept-bare h = rw h
 
-  pub kept-not : r .bare ≡ false → false ≡ isKept r n
+  pub kept-not : r .bare ≡ false → r .bare ≡ isKept r n
   unfolding isKept
   kept-not h = rw h
 
@@ -31,7 +31,7 @@ module _ (r : SizedType) (n m : ℕ) where
   unfolding bothFit
   fit-value h b e = rw (eq-eqb n (r .dlen) h) e
 
-  pub fit-not : (n ≡ r .dlen → ⊥) → false ≡ bothFit r n m
+  pub fit-not : (n ≡ r .dlen → ⊥) → eqb n (r .dlen) ≡ bothFit r n m
   unfolding bothFit
   fit-not h = rw (ne-eqb n (r .dlen) h)
 

@@ -196,18 +196,14 @@ fn value_fits(asked: u8, value_len: usize) -> bool
 fn is_kept(row: SizedType, key_data_len: usize) -> bool
     ensures { λ r. ⌜ r ≡ isKept row «key_data_len» ⌝ }
 {
-    if row.bare { key_data_len != 0 } else { false }
+    row.bare && key_data_len != 0
 }
 
 // Both lengths are those of a row.
 fn both_fit(row: SizedType, key_data_len: usize, value_len: usize) -> bool
     ensures { λ r. ⌜ r ≡ bothFit row «key_data_len» «value_len» ⌝ }
 {
-    if key_data_len == row.dlen as usize {
-        value_fits(row.vlen, value_len)
-    } else {
-        false
-    }
+    key_data_len == row.dlen as usize && value_fits(row.vlen, value_len)
 }
 
 // What a row says of a pair's lengths.

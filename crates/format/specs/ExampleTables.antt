@@ -27,8 +27,8 @@ places =
     ∷ is (inFile ten (entry 0 11 0 0)) false
     ∷ is (inFile ten (entry 3 0 0 0)) false
     ∷ is (inFile ten (entry 10 0 0 0)) false
-    ∷ is (inFile ten (entry 4294967295 1 0 0)) false
-    ∷ is (inFile ten (entry 1 4294967295 0 0)) false
+    ∷ is (inFile ten (entry 0xffff_ffff 1 0 0)) false
+    ∷ is (inFile ten (entry 1 0xffff_ffff 0 0)) false
     -- the value: up to the last byte, past it; empty it may be, up to the end of the file
     ∷ is (inFile ten (entry 3 1 9 1)) true
     ∷ is (inFile ten (entry 3 1 9 2)) false
@@ -37,8 +37,8 @@ places =
     ∷ is (inFile ten (entry 3 1 11 0)) false
     ∷ is (inFile ten (entry 3 1 0 10)) true
     ∷ is (inFile ten (entry 3 1 0 11)) false
-    ∷ is (inFile ten (entry 3 1 4294967295 0)) false
-    ∷ is (inFile ten (entry 3 1 1 4294967295)) false
+    ∷ is (inFile ten (entry 3 1 0xffff_ffff 0)) false
+    ∷ is (inFile ten (entry 3 1 1 0xffff_ffff)) false
     ∷ []
 
 -- so they lie in the file or leave it

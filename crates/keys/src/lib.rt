@@ -106,9 +106,5 @@ pub fn compare(a: &[u8], b: &[u8]) -> Order
 pub fn is_bare(key: &[u8], key_type: u8) -> bool
     ensures { λ r. ⌜ r ≡ same (keyOf «key_type» []) (now (key .entry)) ⌝ }
 {
-    if key.len() == 1 {
-        key[0] == key_type
-    } else {
-        false
-    }
+    key.len() == 1 && key[0] == key_type
 }

@@ -70,9 +70,9 @@ module _ (t : ℕ) (key v : List ℕ) (b : Bool) (is : b ≡ same (keyOf t []) k
   unfolding notedCount
   count-no old h = by-no asCount old h
 
-  pub there-yes : (old : Bool) → b ≡ true → true ≡ notedThere t key v old
+  pub there-yes : (old : Bool) → b ≡ true → b ≡ notedThere t key v old
   unfolding notedThere asThere
-  there-yes old h = by-yes asThere old h
+  there-yes old h = h ∙ by-yes asThere old h
 
   pub there-no : (old : Bool) → b ≡ false → old ≡ notedThere t key v old
   unfolding notedThere
@@ -155,10 +155,26 @@ module _ (w : Known) (key v : List ℕ) where
 pub ruleset pairNotes = (note-wide, note-g, note-o, note-i)
 
 -- all that has to be in the global map
-pub all-there : (g : Globals) (a d x y z : Bool) → a ≡ there (g .«tx_version») → d ≡ there (g .«psbt_version»)
-    → x ≡ (g .«has_outputs» && d) → y ≡ (g .«has_inputs» && x) → z ≡ (a && y) → z ≡ allThere g
-unfolding allThere
-all-there g a d x y z p q t u v = v ∙ rw (u, t, p, q)
+module _ (g : Globals) (a d : Bool) (p : a ≡ there (g .«tx_version»)) (q : d ≡ there (g .«psbt_version»)) where
+  pub no-version : a ≡ false → a ≡ allThere g
+  unfolding allThere
+  no-version h = h ∙ sym (rw (sym p ∙ h))
+
+  module _ (h : a ≡ true) where
+    pub no-inputs : g .«has_inputs» ≡ false → g .«has_inputs» ≡ allThere g
+    unfolding allThere
+    no-inputs k = k ∙ sym (rw (sym p ∙ h, k))
+
+    module _ (k : g .«has_inputs» ≡ true) where
+      pub no-outputs : g .«has_outputs» ≡ false → g .«has_outputs» ≡ allThere g
+      unfolding allThere
+      no-outputs l = l ∙ sym (rw (sym p ∙ h, k, l))
+
+      pub counts-there : g .«has_outputs» ≡ true → d ≡ allThere g
+      unfolding allThere
+      counts-there l = q ∙ sym (rw (sym p ∙ h, k, l))
+
+pub ruleset allTheres = (no-version, no-inputs, no-outputs, counts-there)
 
 module _ (m : Maybe) (n : ℕ) (e : n ≡ orZero m) where
   pub version-two : n ≡ 2 → Passed ≡ versionRule m

@@ -21,7 +21,6 @@ use wire::signed;
 use wire::u32_from_le_bytes;
 use wire::u64_from_compact_size;
 ghost use mathlib.Core.Path.{_≡_};
-ghost use mathlib.Core.Bool.{_&&_};
 ghost use mathlib.Core.List.{[]};
 ghost use Rattle.format.specs.Content.{sizeValue, outputBy};
 ghost use Rattle.format.specs.Rules.{andThen};
@@ -116,7 +115,7 @@ fn noted_count(key_type: u8, key: &[u8], value: &[u8], old: u64) -> u64
 fn noted_there(key_type: u8, key: &[u8], old: bool) -> bool
     ensures { λ r. ⌜ r ≡ notedThere «key_type» (now (key .entry)) [] old ⌝ }
 {
-    if is_bare(key, key_type) { true } else { old }
+    is_bare(key, key_type) || old
 }
 
 // The global fields after a pair of the global map.
@@ -190,22 +189,15 @@ fn is_there(m: Maybe) -> bool
     }
 }
 
-// Both hold.
-fn both(a: bool, b: bool) -> bool
-    ensures { λ r. ⌜ r ≡ (a && b) ⌝ }
-{
-    if a { b } else { false }
-}
-
 // All that has to be in the global map is there.
 fn has_counts(g: Globals) -> bool
     ensures { λ r. ⌜ r ≡ allThere g ⌝ }
 {
     let tx_version = g.tx_version;
     let psbt_version = g.psbt_version;
-    let last = both(g.has_outputs, is_there(psbt_version));
-    let more = both(g.has_inputs, last);
-    both(is_there(tx_version), more)
+    let has_tx_version = is_there(tx_version);
+    let has_psbt_version = is_there(psbt_version);
+    has_tx_version && (g.has_inputs && (g.has_outputs && has_psbt_version))
 }
 
 // The version is 2.

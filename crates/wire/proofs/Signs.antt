@@ -14,20 +14,20 @@ module _ (x : ℕ) where
   unfolding signed
   sign-low = refl
 
-  module _ (h : 2147483648 ≤ x) (f : Fits w32 x) where
-    sum : toZ w32 (x - 2147483648) +ℤ negsuc 2147483647 ≡ negsuc (4294967295 - x)
+  module _ (h : 0x8000_0000 ≤ x) (f : Fits w32 x) where
+    sum : toZ w32 (x - 0x8000_0000) +ℤ negsuc 0x7fff_ffff ≡ negsuc (0xffff_ffff - x)
     sum =
-        let low : x - 2147483648 < 2147483648 = omega arith in
-        let e : 2147483648 - suc (x - 2147483648) ≡ 4294967295 - x = omega arith in
-        ap (λ (z : ℤ). z +ℤ negsuc 2147483647) (toZ-pos w32 low) ∙ rw (lt-ltb (x - 2147483648) 2147483648 low) (ap negsuc e)
+        let low : x - 0x8000_0000 < 0x8000_0000 = omega arith in
+        let e : 0x8000_0000 - suc (x - 0x8000_0000) ≡ 0xffff_ffff - x = omega arith in
+        ap (λ (z : ℤ). z +ℤ negsuc 0x7fff_ffff) (toZ-pos w32 low) ∙ rw (lt-ltb (x - 0x8000_0000) 0x8000_0000 low) (ap negsuc e)
 
-    pub sign-fits : SFits w32 (toZ w32 (x - 2147483648) +ℤ negsuc 2147483647)
+    pub sign-fits : SFits w32 (toZ w32 (x - 0x8000_0000) +ℤ negsuc 0x7fff_ffff)
     sign-fits = subst (λ (z : ℤ). SFits w32 z) (sym sum) (record { sfits = omega arith })
 
-    pub sign-high : toZ w32 (ofZ w32 (toZ w32 (x - 2147483648) +ℤ negsuc 2147483647)) ≡ signed x
+    pub sign-high : toZ w32 (ofZ w32 (toZ w32 (x - 0x8000_0000) +ℤ negsuc 0x7fff_ffff)) ≡ signed x
     unfolding signed
     sign-high =
-        let e : 4294967295 - x ≡ 4294967296 - suc x = omega arith in
-        toZ-ofZ sign-fits ∙ sum ∙ ap negsuc e ∙ sym (rw (le-ltb x 2147483648 h))
+        let e : 0xffff_ffff - x ≡ 0x1_0000_0000 - suc x = omega arith in
+        toZ-ofZ sign-fits ∙ sum ∙ ap negsuc e ∙ sym (rw (le-ltb x 0x8000_0000 h))
 
 pub ruleset signs = (sign-low, sign-fits, sign-high)
