@@ -154,7 +154,7 @@ fn put_to(stand: Stand, at: usize) -> Stand {
     s
 }
 
-// Besides, an accepted parse leaves its report.
+// The lines end there, and an accepted parse leaves its report.
 fn parsed(stand: Stand, at: usize, answer: u64, words: [u64; 8]) -> Stand {
     let mut s = put_to(stand, at);
     if answer == 0 {
@@ -163,7 +163,7 @@ fn parsed(stand: Stand, at: usize, answer: u64, words: [u64; 8]) -> Stand {
     s
 }
 
-// An accepted setter or transaction leaves its state.
+// The lines end there, and an accepted setter or transaction leaves its state.
 fn went(stand: Stand, at: usize, answer: u64, set: u64, written: u64) -> Stand {
     let mut s = put_to(stand, at);
     if answer == 0 {
