@@ -51,11 +51,13 @@ module _ {k : ℕ} {f : List ℕ} {x : Held} {g : List ℕ} {y : Held} (a : Agre
   call-alike call F is h = is f x (a .left) ∙ sym (goes-listed k F h (viewOf f x)) ∙ ap F (a .same) ∙ goes-listed k F h (viewOf g y) ∙ sym (is g y (a .right))
 
   -- what is made of a lookup's answer; a lookup, a number, a listing
-  pub look-alike : {A : Type 0} (call : List ℕ → Held → A) (F : Answer (List ℕ) → A) (ok : Bool) (l : Length) (key : List ℕ) → By call (λ v. F (lookIn ok l key v))
+  pub look-alike : {A : Type 0} (call : List ℕ → Held → A) (F : Answer (List ℕ) → A) (ok : Bool) (l : Length) (key : List ℕ)
+      → By call (λ v. F (lookIn ok l key v))
       → listed k key ≡ true → call f x ≡ call g y
   look-alike call F ok l key is h = call-alike call (λ v. F (lookIn ok l key v)) is (λ ps. ap F (look-strike k key h ok l ps))
 
-  pub bytes-alike : (ok : Bool) (l : Length) (key : List ℕ) → listed k key ≡ true → bytesBy (λ z h. asked ok l z key h) f x ≡ bytesBy (λ z h. asked ok l z key h) g y
+  pub bytes-alike : (ok : Bool) (l : Length) (key : List ℕ)
+      → listed k key ≡ true → bytesBy (λ z h. asked ok l z key h) f x ≡ bytesBy (λ z h. asked ok l z key h) g y
   bytes-alike ok l key = look-alike _ (λ z. z) ok l key (asked-by ok l key)
 
   pub number-alike : (t w : ℕ) → listed k (keyOf t []) ≡ true → numberField t w f x ≡ numberField t w g y

@@ -12,7 +12,10 @@ use Rattle.format.specs.Content.{Pair, Map, Content, mapsOf, bytes, field, psbt
 use Rattle.format.specs.Reading.{limit, accepted, reading}
 use Rattle.format.specs.Tables.{Held, held, heldInput, heldOutput, mapsReported, View, viewOf, view, gathered, gatherBy, gather}
 use Rattle.format.specs.Lookups.{Length, anyLength, asked, look}
-use Rattle.format.specs.Fields.{partField, nonWitnessUtxo, witnessUtxo, sighashType, redeemScript, witnessScript, finalScriptsig, finalScriptwitness, previousTxid, outputIndex, sequence, requiredTimeLocktime, requiredHeightLocktime, spTweak, outRedeemScript, outWitnessScript, amount, script, spV0Info, spV0Label, scanLookup, globalShare, globalProof, inputShare, inputProof, musigLookup, pubNonce, partialSig, inputParticipants, outputParticipants}
+use Rattle.format.specs.Fields.{partField, nonWitnessUtxo, witnessUtxo, sighashType, redeemScript, witnessScript, finalScriptsig}
+use Rattle.format.specs.Fields.{finalScriptwitness, previousTxid, outputIndex, sequence, requiredTimeLocktime, requiredHeightLocktime, spTweak}
+use Rattle.format.specs.Fields.{outRedeemScript, outWitnessScript, amount, script, spV0Info, spV0Label, scanLookup, globalShare, globalProof}
+use Rattle.format.specs.Fields.{inputShare, inputProof, musigLookup, pubNonce, partialSig, inputParticipants, outputParticipants}
 use Rattle.format.specs.Locks.{In, inOf}
 use Rattle.format.specs.Scripts.{Out, outOf, Reported, reports, reportedBy, reported, setBy, setScripts}
 use Rattle.format.specs.Transaction.{txReported, written, unsignedTx, lockBy, lockDecided}
@@ -26,7 +29,8 @@ use Rattle.claims_reading.proofs.Found.{find-bare}
 use Rattle.claims_calls.specs.Answers.{lookIn, countIn, participantIn, utxoIn, scriptIn, listIn, nthIn}
 use Rattle.claims_calls.specs.Newer.{AddedFile, strike, strikeMap, struck, kinds, asks, reportOf, insOf, outsOf, Alike}
 use Rattle.claims_calls.specs.Calls.{ParsesTo, bytesBy, OfMap, SameCalls}
-use Rattle.claims_calls.proofs.Shapes.{held-sound, input-sound, output-sound, By, asked-by, count-by, participant-by, partIn, part-in, part-by, utxo-by, utxo-part-by, bytesWith, script-by, script-part-by, list-by, nth-by}
+use Rattle.claims_calls.proofs.Shapes.{held-sound, input-sound, output-sound, By, asked-by, count-by, participant-by, partIn, part-in}
+use Rattle.claims_calls.proofs.Shapes.{part-by, utxo-by, utxo-part-by, bytesWith, script-by, script-part-by, list-by, nth-by}
 use Rattle.claims_calls.proofs.Views.{input-shows, output-shows}
 use Rattle.claims_calls.proofs.Agree.{Agree, agree-by, call-alike, look-alike, bytes-alike, number-alike, pairs-alike, script-goes}
 use Rattle.claims_calls.proofs.Newers.{newer, older}
@@ -104,22 +108,28 @@ module _ (f : List ℕ) (c : Content) (P M : List ℕ) (e : reading f ≡ accept
       ∙ split
 
 -- so where contents are alike, calls are
-module _ (f : List ℕ) (c : Content) (P M : List ℕ) (e : reading f ≡ accepted c) (g : List ℕ) (d : Content) (Q N : List ℕ) (k : reading g ≡ accepted d) (a : Alike c d) where
+module _ (f : List ℕ) (c : Content) (P M : List ℕ) (e : reading f ≡ accepted c)
+    (g : List ℕ) (d : Content) (Q N : List ℕ) (k : reading g ≡ accepted d) (a : Alike c d) where
   -- maps by their kinds: the global map, input number i, output number i
   global-agree : Agree GLOBAL f (held f (pairTable c P) (mapTable c M) (reportOf c) 0) g (held g (pairTable d Q) (mapTable d N) (reportOf d) 0)
   unfolding struck mapsOf viewBy
   global-agree =
-      agree-by GLOBAL (c .global ∷ []) (d .global ∷ []) (ap (λ (x : Content). x .global ∷ []) (a .same-listed)) 0 (held-sound f _ _ _ 0) (table-shows f c P M e 0) (held-sound g _ _ _ 0) (table-shows g d Q N k 0)
+      agree-by GLOBAL (c .global ∷ []) (d .global ∷ []) (ap (λ (x : Content). x .global ∷ []) (a .same-listed)) 0
+      (held-sound f _ _ _ 0) (table-shows f c P M e 0) (held-sound g _ _ _ 0) (table-shows g d Q N k 0)
 
-  input-agree : (i : ℕ) → Agree INPUT f (heldInput f (pairTable c P) (mapTable c M) (reportOf c) i) g (heldInput g (pairTable d Q) (mapTable d N) (reportOf d) i)
+  input-agree : (i : ℕ)
+      → Agree INPUT f (heldInput f (pairTable c P) (mapTable c M) (reportOf c) i) g (heldInput g (pairTable d Q) (mapTable d N) (reportOf d) i)
   unfolding struck
   input-agree i =
-      agree-by INPUT (c .ins) (d .ins) (ap (λ (x : Content). x .ins) (a .same-listed)) i (input-sound f _ _ _ i) (table-input f c P M e i) (input-sound g _ _ _ i) (table-input g d Q N k i)
+      agree-by INPUT (c .ins) (d .ins) (ap (λ (x : Content). x .ins) (a .same-listed)) i
+      (input-sound f _ _ _ i) (table-input f c P M e i) (input-sound g _ _ _ i) (table-input g d Q N k i)
 
-  output-agree : (i : ℕ) → Agree OUTPUT f (heldOutput f (pairTable c P) (mapTable c M) (reportOf c) i) g (heldOutput g (pairTable d Q) (mapTable d N) (reportOf d) i)
+  output-agree : (i : ℕ) → Agree OUTPUT f (heldOutput f (pairTable c P) (mapTable c M) (reportOf c) i) g
+      (heldOutput g (pairTable d Q) (mapTable d N) (reportOf d) i)
   unfolding struck
   output-agree i =
-      agree-by OUTPUT (c .outs) (d .outs) (ap (λ (x : Content). x .outs) (a .same-listed)) i (output-sound f _ _ _ i) (table-output f c P M e i) (output-sound g _ _ _ i) (table-output g d Q N k i)
+      agree-by OUTPUT (c .outs) (d .outs) (ap (λ (x : Content). x .outs) (a .same-listed)) i
+      (output-sound f _ _ _ i) (table-output f c P M e i) (output-sound g _ _ _ i) (table-output g d Q N k i)
 
   -- maps by their numbers
   of-map : {A : Type 0} (call : List ℕ → Held → A) (F : View → A) → By call F → (m : ℕ) → F (viewBy m (mapsOf c)) ≡ F (viewBy m (mapsOf d))
@@ -127,18 +137,23 @@ module _ (f : List ℕ) (c : Content) (P M : List ℕ) (e : reading f ≡ accept
   of-map call F is m q =
       is f _ (held-sound f _ _ _ m) ∙ ap F (table-shows f c P M e m) ∙ q ∙ sym (ap F (table-shows g d Q N k m)) ∙ sym (is g _ (held-sound g _ _ _ m))
 
-  map-bytes : (ok : Bool) (l : Length) (key : List ℕ) (m : ℕ) → asks m (kinds c) key ≡ true → OfMap f (pairTable c P) (mapTable c M) (reportOf c) g (pairTable d Q) (mapTable d N) (reportOf d) m (bytesBy (λ x h. asked ok l x key h))
+  map-bytes : (ok : Bool) (l : Length) (key : List ℕ) (m : ℕ) → asks m (kinds c) key ≡ true
+      → OfMap f (pairTable c P) (mapTable c M) (reportOf c) g (pairTable d Q) (mapTable d N) (reportOf d) m (bytesBy (λ x h. asked ok l x key h))
   map-bytes ok l key m h = of-map _ (lookIn ok l key) (asked-by ok l key) m (a .same-lookups m key h ok l)
 
   -- what is a function of the report and of what all maps show
   by-report : {A : Type 0} (F : Psbt → Reported → A) → F (reportOf c) (reported (view f (pairTable c P) (mapTable c M) (reportOf c)) (reportOf c))
       ≡ F (reportOf d) (reported (view g (pairTable d Q) (mapTable d N) (reportOf d)) (reportOf d))
   by-report F =
-      ap (F (reportOf c)) (table-reported f c P M e) ∙ (λ j. F (a .same-report j) (reports (a .same-ins j) (a .same-outs j))) ∙ sym (ap (F (reportOf d)) (table-reported g d Q N k))
+      ap (F (reportOf c)) (table-reported f c P M e) ∙ (λ j. F (a .same-report j) (reports (a .same-ins j) (a .same-outs j)))
+      ∙ sym (ap (F (reportOf d)) (table-reported g d Q N k))
 
   -- every type that a call asks by itself is listed: `refl`
   same-calls : SameCalls f (pairTable c P) (mapTable c M) (reportOf c) g (pairTable d Q) (mapTable d N) (reportOf d) (kinds c)
-  unfolding lockDecided setScripts unsignedTx look partField scanLookup musigLookup nonWitnessUtxo witnessUtxo sighashType redeemScript witnessScript finalScriptsig finalScriptwitness previousTxid outputIndex sequence requiredTimeLocktime requiredHeightLocktime spTweak outRedeemScript outWitnessScript amount script spV0Info spV0Label globalShare globalProof inputShare inputProof pubNonce partialSig inputParticipants outputParticipants asks kinds listed typeOf keyOf within listedTypes span
+  unfolding lockDecided setScripts unsignedTx look partField scanLookup musigLookup nonWitnessUtxo witnessUtxo
+      sighashType redeemScript witnessScript finalScriptsig finalScriptwitness previousTxid outputIndex sequence requiredTimeLocktime
+      requiredHeightLocktime spTweak outRedeemScript outWitnessScript amount script spV0Info spV0Label globalShare globalProof
+      inputShare inputProof pubNonce partialSig inputParticipants outputParticipants asks kinds listed typeOf keyOf within listedTypes span
   same-calls = record {
     report = a .same-report;
     part-of = λ y z h. part-in f y ∙ ap (partIn (λ v. v)) h ∙ sym (part-in g z);
@@ -151,7 +166,8 @@ module _ (f : List ℕ) (c : Content) (P M : List ℕ) (e : reading f ≡ accept
     input-numbers = λ t w h i. number-alike (input-agree i) t w h;
     output-numbers = λ t w h i. number-alike (output-agree i) t w h;
     map-get = λ m t x h. map-bytes true anyLength (keyOf t x) m h;
-    map-get-part = λ m t x h. of-map _ (λ v. partIn (λ y. y) (lookIn true anyLength (keyOf t x) v)) (part-by true anyLength (keyOf t x)) m (ap (partIn (λ y. y)) (a .same-lookups m (keyOf t x) h true anyLength));
+    map-get-part = λ m t x h. of-map _ (λ v. partIn (λ y. y) (lookIn true anyLength (keyOf t x) v))
+        (part-by true anyLength (keyOf t x)) m (ap (partIn (λ y. y)) (a .same-lookups m (keyOf t x) h true anyLength));
     map-list = λ m t h. of-map _ (listIn t) (list-by t) m (a .same-lists m t h);
     map-nth = λ m t j h. of-map _ (λ v. nthIn j (listIn t v)) (nth-by t j) m (ap (nthIn j) (a .same-lists m t h));
     input-iter-keys = λ t h i. pairs-alike (input-agree i) t h;
@@ -197,7 +213,8 @@ module _ (f : List ℕ) (c : Content) (P M : List ℕ) (e : reading f ≡ accept
     output-get-musig2-participant-count = λ x i. look-alike (output-agree i) _ countIn _ _ _ (count-by _ _ _) refl;
     output-get-musig2-participant = λ x n i. look-alike (output-agree i) _ (participantIn n) _ _ _ (participant-by _ _ _ n) refl;
     output-output-script = λ t T n i. call-alike (output-agree i) _ (scriptIn t T n) (script-by t T n) (script-goes t T n);
-    output-output-script-part = λ t T n i. call-alike (output-agree i) _ (λ v. partIn (bytesWith T) (scriptIn t T n v)) (script-part-by t T n) (λ ps. ap (partIn (bytesWith T)) (script-goes t T n ps));
+    output-output-script-part = λ t T n i. call-alike (output-agree i) _
+        (λ v. partIn (bytesWith T) (scriptIn t T n v)) (script-part-by t T n) (λ ps. ap (partIn (bytesWith T)) (script-goes t T n ps));
     lock-decided = by-report lockBy;
     set-sp-output-scripts = λ x buffer t T. by-report (λ s r. setBy buffer t T x r);
     unsigned-tx = λ t T B. by-report (λ s r. written t B (txReported s t T r));
@@ -242,7 +259,8 @@ room-parses f c P M e r = parse-is f c P M e r
 -- with room for each, both files parse, and every call of a listed type answers the same: pairs added
 pub newer-calls : (f : List ℕ) (c d : Content) → reading f ≡ accepted c → AddedFile c d → RisesFile d → length (bytes d) ≤ limit
     → (P M Q N : List ℕ) → Room c P M → Room d Q N
-    → ParsesTo f P M c × ParsesTo (bytes d) Q N d × SameCalls f (pairTable c P) (mapTable c M) (reportOf c) (bytes d) (pairTable d Q) (mapTable d N) (reportOf d) (kinds c)
+    → ParsesTo f P M c × ParsesTo (bytes d) Q N d
+    × SameCalls f (pairTable c P) (mapTable c M) (reportOf c) (bytes d) (pairTable d Q) (mapTable d N) (reportOf d) (kinds c)
 newer-calls f c d e a r s P M Q N x y =
     let w = newer f c d e a r s in
     (room-parses f c P M e x, room-parses (bytes d) d Q N (w .0) y, same-calls f c P M e (bytes d) d Q N (w .0) (w .1))
@@ -250,7 +268,8 @@ newer-calls f c d e a r s P M Q N x y =
 -- and pairs struck: tables with room for the file have room for what is left
 pub older-calls : (f : List ℕ) (c : Content) → reading f ≡ accepted c → (P M : List ℕ) → Room c P M
     → ParsesTo f P M c × ParsesTo (bytes (struck c)) P M (struck c)
-    × SameCalls (bytes (struck c)) (pairTable (struck c) P) (mapTable (struck c) M) (reportOf (struck c)) f (pairTable c P) (mapTable c M) (reportOf c) (kinds (struck c))
+    × SameCalls (bytes (struck c)) (pairTable (struck c) P)
+    (mapTable (struck c) M) (reportOf (struck c)) f (pairTable c P) (mapTable c M) (reportOf c) (kinds (struck c))
 older-calls f c e P M r =
     let w = older f c e in (
       room-parses f c P M e r,

@@ -22,7 +22,8 @@ use Rattle.claims_reading.proofs.Promised.{promised-accepts}
 use Rattle.claims_reading.proofs.Shown.{accepted-shows}
 use Rattle.claims_calls.specs.Answers.{answerAt, lookIn, utxoAt, scriptAt, listAt, listIn}
 use Rattle.claims_calls.specs.Meaning.{Means, ByContent}
-use Rattle.claims_calls.proofs.Shapes.{Sound, held-sound, input-sound, output-sound, asked-by, number-by, count-by, participant-by, utxo-by, script-by, list-by}
+use Rattle.claims_calls.proofs.Shapes.{Sound, held-sound, input-sound, output-sound, asked-by, number-by}
+use Rattle.claims_calls.proofs.Shapes.{count-by, participant-by, utxo-by, script-by, list-by}
 use Rattle.claims_calls.proofs.Views.{input-shows, output-shows}
 
 -- a sound map answers by what it shows
@@ -76,10 +77,12 @@ module _ (f P M : List ℕ) (c : Content) (reads : reading f ≡ accepted c) (s 
   field-means n ok l key = calls-mean .maps n .field ok l key _ refl
 
   -- an answer that meets the promise of `get`: the bytes that it names are the value of that key in the content
-  pub lookup-means : (n t : ℕ) (d : List ℕ) (r : Looked) → toldLooked r ≡ toldLooked (look f t d (held f P′ M′ s n)) → answerAt f r ≡ lookIn true anyLength (keyOf t d) (viewBy n (mapsOf c))
+  pub lookup-means : (n t : ℕ) (d : List ℕ) (r : Looked)
+      → toldLooked r ≡ toldLooked (look f t d (held f P′ M′ s n)) → answerAt f r ≡ lookIn true anyLength (keyOf t d) (viewBy n (mapsOf c))
   unfolding look
   lookup-means n t d = calls-mean .maps n .field true anyLength (keyOf t d)
 
   -- an answer that meets the promise of `list`: the pairs that it names are the content's pairs of that type, in order
-  pub listing-means : (n t : ℕ) (r : Listing) → toldListing r ≡ toldListing (list f t (held f P′ M′ s n)) → listAt f r (held f P′ M′ s n) ≡ listIn t (viewBy n (mapsOf c))
+  pub listing-means : (n t : ℕ) (r : Listing) → toldListing r ≡ toldListing (list f t (held f P′ M′ s n))
+      → listAt f r (held f P′ M′ s n) ≡ listIn t (viewBy n (mapsOf c))
   listing-means n t = calls-mean .maps n .listing t

@@ -55,7 +55,8 @@ map-down k m h = record {
 }
 
 -- and makes it no longer
-less-keep : (t : Bool) (p : Pair) (ps : List Pair) (q r : List ℕ) → length (pairsBytes ps q) ≤ length r → length (pairsBytes (keepIf t p ps) q) ≤ length (pairBytes p r)
+less-keep : (t : Bool) (p : Pair) (ps : List Pair) (q r : List ℕ)
+    → length (pairsBytes ps q) ≤ length r → length (pairsBytes (keepIf t p ps) q) ≤ length (pairBytes p r)
 unfolding pairsBytes pairBytes
 less-keep true p ps q r h = simp length-append (omega arith)
 less-keep false p ps q r h = simp length-append (omega arith)
@@ -113,7 +114,8 @@ record FramedFile (c : Content) : Type 0 where
   pub ins : All FramedMap (c .ins)
   pub outs : All FramedMap (c .outs)
 
-keeps-keep : (k : ℕ) (t : Bool) (p : Pair) (ps qs : List Pair) → listed k (p .key) ≡ t → (All (Keeps (rule k)) qs → All (Keeps (rule k)) ps) → All (Keeps (rule k)) (keepIf t p qs) → All (Keeps (rule k)) (p ∷ ps)
+keeps-keep : (k : ℕ) (t : Bool) (p : Pair) (ps qs : List Pair) → listed k (p .key) ≡ t
+    → (All (Keeps (rule k)) qs → All (Keeps (rule k)) ps) → All (Keeps (rule k)) (keepIf t p qs) → All (Keeps (rule k)) (p ∷ ps)
 keeps-keep k true p ps qs e h a = (a .0, h (a .1))
 keeps-keep k false p ps qs e h a = (rule-free k (p .key) (p .value) e, h a)
 
@@ -153,7 +155,8 @@ alike-by x c d a b =
 
 -- two contents with the same listed pairs
 core : (c d : Content) → struck c ≡ struck d → FineFile c → FramedFile d → RisesFile d → length (bytes d) ≤ limit → FineFile d × Alike c d
-core c d e h f r s = (up d (subst FineFile e (down c h)) f r s, alike-by (struck d) c d (subst (λ (x : Content). Alike x c) e (alike-struck c)) (alike-struck d))
+core c d e h f r s =
+    (up d (subst FineFile e (down c h)) f r s, alike-by (struck d) c d (subst (λ (x : Content). Alike x c) e (alike-struck c)) (alike-struck d))
 
 -- an addition has the same listed pairs
 added-strike : (k : ℕ) (ps qs : List Pair) → Added k ps qs → strike k ps ≡ strike k qs

@@ -6,7 +6,8 @@ use Rattle.format.specs.Outcomes.{One, OneWith, OneWithBoth}
 use Rattle.format.specs.Parse.{ParseOut}
 use Rattle.format.specs.Parse as R
 use Rattle.format.specs.Scripts.{SetOut, setOut}
-use Rattle.format.specs.Told.{Told, toldLeft, toldListing, toldLock, toldLooked, toldNth, toldNumbered, toldParse, toldParsed, toldScript, toldSet, toldSetOut, toldTx, toldTxOut, toldUtxo, toldWith}
+use Rattle.format.specs.Told.{Told, toldLeft, toldListing, toldLock, toldLooked, toldNth, toldNumbered, toldParse, toldParsed}
+use Rattle.format.specs.Told.{toldScript, toldSet, toldSetOut, toldTx, toldTxOut, toldUtxo, toldWith}
 use Rattle.format.specs.Transaction.{TxOut, txOut}
 use Rattle.format.specs.declared.Listing.{Listing}
 use Rattle.format.specs.declared.Lock.{Lock}

@@ -34,7 +34,8 @@ use Rattle.claims_reading.specs.Fine.{Rises}
 use Rattle.claims_reading.proofs.Shown.{held-shows}
 use Rattle.claims_reading.proofs.Listings.{listing-is}
 use Rattle.claims_calls.specs.Answers as S
-use Rattle.claims_calls.specs.Answers.{Answer, refuses, lacks, gives, answerAt, ofLengthIn, lookIn, numberIn, countIn, participantIn, utxoAt, utxoIn, Script, scriptAt, scriptFound, scriptIn, listAt, listIn, nthAt, nthOfListing, pairOf, nthIn}
+use Rattle.claims_calls.specs.Answers.{Answer, refuses, lacks, gives, answerAt, ofLengthIn, lookIn, numberIn, countIn, participantIn, utxoAt}
+use Rattle.claims_calls.specs.Answers.{utxoIn, Script, scriptAt, scriptFound, scriptIn, listAt, listIn, nthAt, nthOfListing, pairOf, nthIn}
 
 -- the test of an arm may be used in it
 arm : {A : Type 0} (t : Bool) (x y z : A) → (t ≡ true → x ≡ y) → pick t x z ≡ pick t y z
@@ -69,7 +70,8 @@ Lies f (At s n) = s + n ≤ length f
 
 value-lies : (f : List ℕ) (e : PairEntry) → inFile f e ≡ true → Lies f (At (e .value) (e .vlen))
 unfolding inFile
-value-lies f e h = leb-true _ _ (and-left (leb (e .value + e .vlen) (length f)) (ltb 0 (e .klen)) (and-right (leb (e .key + e .klen) (length f)) (leb (e .value + e .vlen) (length f) && ltb 0 (e .klen)) h))
+value-lies f e h = leb-true _ _ (and-left (leb (e .value + e .vlen) (length f))
+    (ltb 0 (e .klen)) (and-right (leb (e .key + e .klen) (length f)) (leb (e .value + e .vlen) (length f) && ltb 0 (e .klen)) h))
 
 -- so it has as many bytes as it says
 as-long : (f : List ℕ) (s n : ℕ) → s + n ≤ length f → length (take n (drop s f)) ≡ n
@@ -84,9 +86,11 @@ place-lies f key (e ∷ es) h =
     (λ q. value-lies f e (and-left (inFile f e) (every (inFile f) es) h))
     (λ q. place-lies f key es (and-right (inFile f e) (every (inFile f) es) h))
 
-value-is : (f : List ℕ) (l : Length) (e : PairEntry) → inFile f e ≡ true → answerAt f (ofLength l (At (e .value) (e .vlen))) ≡ ofLengthIn l (found (valueIn f e))
+value-is : (f : List ℕ) (l : Length) (e : PairEntry) → inFile f e ≡ true
+    → answerAt f (ofLength l (At (e .value) (e .vlen))) ≡ ofLengthIn l (found (valueIn f e))
 unfolding answerAt ofLength ofLengthIn valueIn
-value-is f l e h = rw (as-long f (e .value) (e .vlen) (value-lies f e h)) (pick-ap (answerAt f) (lengthFits l (e .vlen)) (At (e .value) (e .vlen)) (Refused BadValue))
+value-is f l e h = rw (as-long f (e .value) (e .vlen) (value-lies f e h))
+    (pick-ap (answerAt f) (lengthFits l (e .vlen)) (At (e .value) (e .vlen)) (Refused BadValue))
 
 place-is : (f : List ℕ) (l : Length) (key : List ℕ) (es : List PairEntry) → every (inFile f) es ≡ true
     → answerAt f (ofLength l (place f key es)) ≡ ofLengthIn l (find key (map (shown f) es))
@@ -138,10 +142,12 @@ utxo-of f s n =
     ∙ arm t _ _ _ (λ q. ap (λ (x : List ℕ). gives (le (take 8 v), x)) (bytes-inside f s n 9 (getD v 8 0) (within q)))
     ∙ sym (pick-ap (utxoAt v) t _ _)
   where
-    within : (leb 9 (length (take n (drop s f))) && (leb (getD (take n (drop s f)) 8 0) 0xfc && eqb (length (take n (drop s f))) (9 + getD (take n (drop s f)) 8 0))) ≡ true → 9 + getD (take n (drop s f)) 8 0 ≤ n
+    within : (leb 9 (length (take n (drop s f))) && (leb (getD (take n (drop s f)) 8 0) 0xfc
+        && eqb (length (take n (drop s f))) (9 + getD (take n (drop s f)) 8 0))) ≡ true → 9 + getD (take n (drop s f)) 8 0 ≤ n
     within q =
         let v : List ℕ = take n (drop s f) in
-        let e : length v ≡ 9 + getD v 8 0 = eqb-true _ _ (and-right (leb (getD v 8 0) 0xfc) (eqb (length v) (9 + getD v 8 0)) (and-right (leb 9 (length v)) _ q)) in
+        let e : length v ≡ 9 + getD v 8 0 =
+        eqb-true _ _ (and-right (leb (getD v 8 0) 0xfc) (eqb (length v) (9 + getD v 8 0)) (and-right (leb 9 (length v)) _ q)) in
         omega (arith, length-take n (drop s f))
 
 utxo-in : (f : List ℕ) (y : Looked) → utxoAt f (utxoBy f y) ≡ utxoIn (answerAt f y)
@@ -151,12 +157,14 @@ utxo-in f Absent = refl
 utxo-in f (At s n) = utxo-of f s n
 
 -- a script where it was found
-script-in : (f key : List ℕ) (t : State) (i : ℕ) (es : List PairEntry) → scriptAt f (scriptPlace t i (place f key es)) ≡ scriptFound t i (find key (map (shown f) es))
+script-in : (f key : List ℕ) (t : State) (i : ℕ) (es : List PairEntry)
+    → scriptAt f (scriptPlace t i (place f key es)) ≡ scriptFound t i (find key (map (shown f) es))
 unfolding scriptAt scriptPlace scriptFound place find shown valueIn
 script-in f key t i [] = pick-ap (scriptAt f) (t .set) _ _
 script-in f key t i (e ∷ es) =
     let b = same key (keyIn f e) in
-    pick-ap (λ y. scriptAt f (scriptPlace t i y)) b _ _ ∙ ap (pick b (gives (S.inFile (valueIn f e)))) (script-in f key t i es) ∙ sym (pick-ap (scriptFound t i) b _ _)
+    pick-ap (λ y. scriptAt f (scriptPlace t i y)) b _ _
+    ∙ ap (pick b (gives (S.inFile (valueIn f e)))) (script-in f key t i es) ∙ sym (pick-ap (scriptFound t i) b _ _)
 
 -- pairs by their numbers
 nth-of : (f : List ℕ) (j : ℕ) (es : List PairEntry) → nthAt f (nthOf j es) ≡ pairOf j (map (shown f) es)
@@ -195,7 +203,8 @@ pair-take n j ps =
 nth-in : (f : List ℕ) (j i n : ℕ) (es : List PairEntry) → nthOfListing f j (L.Pairs i n) (holds es) ≡ nthIn j (listAt f (L.Pairs i n) (holds es))
 unfolding nthOfListing nthIn listAt nth
 nth-in f j i n es =
-    ap (λ (x : Answer Pair). pick (ltb j n) x (refuses OutOfRange)) (nth-of f (i + j) es ∙ pair-drop i j (map (shown f) es)) ∙ pair-take n j (drop i (map (shown f) es))
+    ap (λ (x : Answer Pair). pick (ltb j n) x (refuses OutOfRange)) (nth-of f (i + j) es ∙ pair-drop i j (map (shown f) es))
+    ∙ pair-take n j (drop i (map (shown f) es))
 
 -- the part that is handed back: empty for absence and refusal
 unfoldable pub partIn : {A : Type 0} → (A → List ℕ) → Answer A → List ℕ

@@ -53,7 +53,8 @@ listing-strike k t [] l = refl
 listing-strike k t (p ∷ ps) l = listing-at k t p ps (strike k ps) (listed k (p .key)) refl l (listing-strike k t ps l)
 
 -- so a map's answers
-pub look-strike : (k : ℕ) (key : List ℕ) → listed k key ≡ true → (ok : Bool) (l : Length) (ps : List Pair) → lookIn ok l key (shows (strike k ps)) ≡ lookIn ok l key (shows ps)
+pub look-strike : (k : ℕ) (key : List ℕ) → listed k key ≡ true
+    → (ok : Bool) (l : Length) (ps : List Pair) → lookIn ok l key (shows (strike k ps)) ≡ lookIn ok l key (shows ps)
 unfolding lookIn
 look-strike k key a ok l ps = ap (λ (x : Found). pick ok (ofLengthIn l x) (refuses BadValue)) (find-strike k key ps a)
 
@@ -81,13 +82,25 @@ report-strike : (c : Content) → reportOf (struck c) ≡ reportOf c
 unfolding reportOf struck strikeMap psbtOf listed typeOf keyOf within listedTypes span
 report-strike c =
     let g = c .global .pairs in
-    rw (field-strike GLOBAL 0x02 g refl, field-strike GLOBAL 0x03 g refl, field-strike GLOBAL 0x06 g refl, field-strike GLOBAL 0x04 g refl, field-strike GLOBAL 0x05 g refl)
+    rw (
+      field-strike GLOBAL 0x02 g refl,
+      field-strike GLOBAL 0x03 g refl,
+      field-strike GLOBAL 0x06 g refl,
+      field-strike GLOBAL 0x04 g refl,
+      field-strike GLOBAL 0x05 g refl,
+    )
 
 in-strike : (m : Map) → inOf ((strikeMap INPUT m) .pairs) ≡ inOf (m .pairs)
 unfolding inOf strikeMap listed typeOf keyOf within listedTypes span
 in-strike m =
     let ps = m .pairs in
-    rw (field-strike INPUT 0x0e ps refl, field-strike INPUT 0x0f ps refl, field-strike INPUT 0x10 ps refl, field-strike INPUT 0x11 ps refl, field-strike INPUT 0x12 ps refl)
+    rw (
+      field-strike INPUT 0x0e ps refl,
+      field-strike INPUT 0x0f ps refl,
+      field-strike INPUT 0x10 ps refl,
+      field-strike INPUT 0x11 ps refl,
+      field-strike INPUT 0x12 ps refl,
+    )
 
 pub out-strike : (ps : List Pair) → outOf (strike OUTPUT ps) ≡ outOf ps
 unfolding outOf listed typeOf keyOf within listedTypes span
@@ -175,7 +188,8 @@ module _ {A : Type 0} (g : View → A) (key : List ℕ) (h : (k : ℕ) (ps : Lis
 
 -- alike by what lock, scripts and transaction are made of
 pub alike-of : (c d : Content) → struck c ≡ struck d → reportOf c ≡ reportOf d → kinds c ≡ kinds d
-    → ((m : ℕ) (key : List ℕ) → asks m (kinds c) key ≡ true → (ok : Bool) (l : Length) → lookIn ok l key (viewBy m (mapsOf c)) ≡ lookIn ok l key (viewBy m (mapsOf d)))
+    → ((m : ℕ) (key : List ℕ) → asks m (kinds c) key ≡ true
+    → (ok : Bool) (l : Length) → lookIn ok l key (viewBy m (mapsOf c)) ≡ lookIn ok l key (viewBy m (mapsOf d)))
     → ((m t : ℕ) → asks m (kinds c) (keyOf t []) ≡ true → listIn t (viewBy m (mapsOf c)) ≡ listIn t (viewBy m (mapsOf d)))
     → insOf c ≡ insOf d → outsOf c ≡ outsOf d → Alike c d
 alike-of c d e r k v l i o = record {
@@ -195,6 +209,8 @@ alike-of c d e r k v l i o = record {
 pub alike-struck : (c : Content) → Alike (struck c) c
 alike-struck c =
     alike-of (struck c) c (struck-again c) (report-strike c) (kinds-strike c)
-    (λ m key l ok n. view-strike (lookIn ok n key) key (λ k ps a. look-strike k key a ok n ps) c m (ap (λ (ks : List ℕ). asks m ks key) (sym (kinds-strike c)) ∙ l))
-    (λ m t l. view-strike (listIn t) (keyOf t []) (λ k ps a. list-strike k t a ps) c m (ap (λ (ks : List ℕ). asks m ks (keyOf t [])) (sym (kinds-strike c)) ∙ l))
+    (λ m key l ok n. view-strike (lookIn ok n key) key (λ k ps a. look-strike k key a ok n ps) c m
+    (ap (λ (ks : List ℕ). asks m ks key) (sym (kinds-strike c)) ∙ l))
+    (λ m t l. view-strike (listIn t) (keyOf t []) (λ k ps a. list-strike k t a ps) c m
+    (ap (λ (ks : List ℕ). asks m ks (keyOf t [])) (sym (kinds-strike c)) ∙ l))
     (ins-strike c) (outs-strike c)

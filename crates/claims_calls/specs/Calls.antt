@@ -10,7 +10,11 @@ use Rattle.format.specs.Content.{Pair, Content, mapsOf}
 use Rattle.format.specs.Parse.{out, parsed}
 use Rattle.format.specs.Tables.{Held, held, heldInput, heldOutput, View, viewOf, view}
 use Rattle.format.specs.Lookups.{Length, asked, look, part, list}
-use Rattle.format.specs.Fields.{numberField, nonWitnessUtxo, witnessUtxo, sighashType, redeemScript, witnessScript, finalScriptsig, finalScriptwitness, previousTxid, outputIndex, sequence, requiredTimeLocktime, requiredHeightLocktime, spTweak, outRedeemScript, outWitnessScript, amount, script, spV0Info, spV0Label, globalShare, globalProof, inputShare, inputProof, pubNonce, partialSig, inputParticipants, outputParticipants, participantCount, participant, getWitnessUtxo, utxoPart}
+use Rattle.format.specs.Fields.{numberField, nonWitnessUtxo, witnessUtxo, sighashType, redeemScript, witnessScript, finalScriptsig}
+use Rattle.format.specs.Fields.{finalScriptwitness, previousTxid, outputIndex, sequence, requiredTimeLocktime, requiredHeightLocktime, spTweak}
+use Rattle.format.specs.Fields.{outRedeemScript, outWitnessScript, amount, script, spV0Info, spV0Label, globalShare, globalProof, inputShare}
+use Rattle.format.specs.Fields.{inputProof, pubNonce, partialSig, inputParticipants, outputParticipants, participantCount, participant}
+use Rattle.format.specs.Fields.{getWitnessUtxo, utxoPart}
 use Rattle.format.specs.Scripts.{Given, setScripts}
 use Rattle.format.specs.Transaction.{unsignedTx, lockDecided, outputScript, scriptPart}
 use Rattle.format.specs.declared.Psbt.{Psbt}
@@ -121,5 +125,6 @@ module _ (f P M : List ℕ) (s : Psbt) (g Q N : List ℕ) (u : Psbt) where
     pub output-output-script-part : (t : State) (T : List ℕ) (n : ℕ) → OfOutput (λ x h. scriptPart x T (outputScript x t T n h))
     -- of the whole file
     pub lock-decided : lockDecided (view f P M s) s ≡ lockDecided (view g Q N u) u
-    pub set-sp-output-scripts : (a : Given) (buffer : List ℕ) (t : State) (T : List ℕ) → setScripts (view f P M s) s a buffer t T ≡ setScripts (view g Q N u) u a buffer t T
+    pub set-sp-output-scripts : (a : Given) (buffer : List ℕ) (t : State) (T : List ℕ)
+        → setScripts (view f P M s) s a buffer t T ≡ setScripts (view g Q N u) u a buffer t T
     pub unsigned-tx : (t : State) (T B : List ℕ) → unsignedTx (view f P M s) s t T B ≡ unsignedTx (view g Q N u) u t T B

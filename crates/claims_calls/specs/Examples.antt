@@ -23,7 +23,8 @@ struckBytes (refused e) = []
 struckBytes (accepted c) = bytes (struck c)
 
 -- 11 pairs, and F's transaction
-pub same-tx : answers fileG ≡ goes (acceptedWith none none 1 1 11 3) (toldLeft (told 0 (nat 61 ∷ flag false ∷ flag true ∷ [])) (txF (0 ∷ 0 ∷ 0 ∷ 0 ∷ []) ++ (0 ∷ 0 ∷ 0 ∷ [])))
+pub same-tx : answers fileG ≡ goes (acceptedWith none none 1 1 11 3)
+    (toldLeft (told 0 (nat 61 ∷ flag false ∷ flag true ∷ [])) (txF (0 ∷ 0 ∷ 0 ∷ 0 ∷ []) ++ (0 ∷ 0 ∷ 0 ∷ [])))
 unfolding computes
 same-tx = refl
 

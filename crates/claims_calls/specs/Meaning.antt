@@ -25,8 +25,10 @@ pub record Means (f : List ℕ) (h : Held) (v : View) : Type 0 where
   pub field : (ok : Bool) (l : Length) (key : List ℕ) (r : Looked) → toldLooked r ≡ toldLooked (asked ok l f key h) → answerAt f r ≡ lookIn ok l key v
   pub number : (t w : ℕ) (r : Numbered) → toldNumbered r ≡ toldNumbered (numberField t w f h) → r ≡ numberIn (lookIn true (exactly w) (keyOf t []) v)
   pub listing : (t : ℕ) (r : Listing) → toldListing r ≡ toldListing (list f t h) → listAt f r h ≡ listIn t v
-  pub count : (ok : Bool) (l : Length) (key : List ℕ) (r : Numbered) → toldNumbered r ≡ toldNumbered (participantCount (asked ok l f key h)) → r ≡ countIn (lookIn ok l key v)
-  pub member : (n : ℕ) (ok : Bool) (l : Length) (key : List ℕ) (r : Looked) → toldLooked r ≡ toldLooked (participant n (asked ok l f key h)) → answerAt f r ≡ participantIn n (lookIn ok l key v)
+  pub count : (ok : Bool) (l : Length) (key : List ℕ) (r : Numbered)
+      → toldNumbered r ≡ toldNumbered (participantCount (asked ok l f key h)) → r ≡ countIn (lookIn ok l key v)
+  pub member : (n : ℕ) (ok : Bool) (l : Length) (key : List ℕ) (r : Looked)
+      → toldLooked r ≡ toldLooked (participant n (asked ok l f key h)) → answerAt f r ≡ participantIn n (lookIn ok l key v)
   pub utxo : (r : Utxo) → toldUtxo r ≡ toldUtxo (getWitnessUtxo f h) → utxoAt f r ≡ utxoIn (lookIn true anyLength (keyOf 0x01 []) v)
   pub script : (t : State) (T : List ℕ) (n : ℕ) (r : OutputScript) → toldScript r ≡ toldScript (outputScript f t T n h) → scriptAt f r ≡ scriptIn t T n v
 

@@ -84,7 +84,8 @@ pub record Alike (c d : Content) : Type 0 where
   pub same-listed : struck c ≡ struck d
   pub same-report : reportOf c ≡ reportOf d
   pub same-kinds : kinds c ≡ kinds d
-  pub same-lookups : (m : ℕ) (key : List ℕ) → asks m (kinds c) key ≡ true → (ok : Bool) (l : Length) → lookIn ok l key (viewBy m (mapsOf c)) ≡ lookIn ok l key (viewBy m (mapsOf d))
+  pub same-lookups : (m : ℕ) (key : List ℕ) → asks m (kinds c) key ≡ true
+      → (ok : Bool) (l : Length) → lookIn ok l key (viewBy m (mapsOf c)) ≡ lookIn ok l key (viewBy m (mapsOf d))
   pub same-lists : (m t : ℕ) → asks m (kinds c) (keyOf t []) ≡ true → listIn t (viewBy m (mapsOf c)) ≡ listIn t (viewBy m (mapsOf d))
   pub same-ins : insOf c ≡ insOf d
   pub same-outs : outsOf c ≡ outsOf d

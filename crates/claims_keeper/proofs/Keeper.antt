@@ -22,7 +22,8 @@ use Rattle.claims_lock.proofs.Promises.{outcome, written-honours, fallen-refuse
 use Rattle.claims_keeper.specs.Keeper.{Run, lockWritten, Kept, fallenRefusal}
 
 -- the tables of an accepted parse report what its content has
-reported-by : (f P M : List ℕ) (s : Psbt) (p m : ℕ) (P′ M′ : List ℕ) (a : Accepts f P M s p m P′ M′) → reported (view f P′ M′ s) s ≡ reports (insOf (a .content)) (outsOf (a .content))
+reported-by : (f P M : List ℕ) (s : Psbt) (p m : ℕ) (P′ M′ : List ℕ) (a : Accepts f P M s p m P′ M′)
+    → reported (view f P′ M′ s) s ≡ reports (insOf (a .content)) (outsOf (a .content))
 unfolding reportOf
 reported-by f P M s p m P′ M′ a = rw (a .reports, a .pairs-left, a .maps-left) (table-reported f (a .content) P M (a .reads))
 
@@ -49,7 +50,8 @@ module _ (f : List ℕ) (x : Run f) where
   keeper bytes n t w = (accepts .content, accepts .reads, keeper-content bytes n t w (accepts .content) (accepts .reads))
 
   -- if its content asks for a time, and for none that is not below the threshold: refused, and the buffer is as it was
-  pub fallen-clock-of-a-file : (c : Content) → reading f ≡ accepted c → FallenTimes (insOf c) → (x .answer ≡ Refused (fallenRefusal x c)) × (x .buffer-left ≡ x .buffer)
+  pub fallen-clock-of-a-file : (c : Content) → reading f ≡ accepted c
+      → FallenTimes (insOf c) → (x .answer ≡ Refused (fallenRefusal x c)) × (x .buffer-left ≡ x .buffer)
   unfolding unsignedTx written fallenRefusal
   fallen-clock-of-a-file c reads clock =
       let e : txOut (x .answer) (x .buffer-left) ≡ txOut (Refused (fallenRefusal x c)) (x .buffer) =
@@ -59,6 +61,7 @@ module _ (f : List ℕ) (x : Run f) where
       ((cc), (cc))
 
   -- with 7 where no scripts were set
-  pub fallen-clock-unset : (c : Content) → reading f ≡ accepted c → FallenTimes (insOf c) → x .state .set ≡ false → (x .answer ≡ Refused BadValue) × (x .buffer-left ≡ x .buffer)
+  pub fallen-clock-unset : (c : Content) → reading f ≡ accepted c
+      → FallenTimes (insOf c) → x .state .set ≡ false → (x .answer ≡ Refused BadValue) × (x .buffer-left ≡ x .buffer)
   unfolding fallenRefusal tableFits
   fallen-clock-unset c reads clock unset = rw unset at (fallen-clock-of-a-file c reads clock)

@@ -33,10 +33,11 @@ abbrev pub Fallen : Verdict → Type 0
 Fallen (refused e) = ⊥
 Fallen (accepted c) = FallenTimes (insOf c)
 
--- F asking for height 800,000, and for time 86,400
+-- F asking for height 800,000
 abbrev pub fileH : List ℕ
 fileH = fileFWith [] (height 800_000) script
 
+-- F asking for time 86,400
 abbrev pub fileT : List ℕ
 fileT = fileFWith [] (time 86_400) script
 
@@ -48,17 +49,20 @@ pairsLeft = pairsE ++ (29 ∷ 1 ∷ 31 ∷ 32 ∷ 64 ∷ 1 ∷ 66 ∷ 4 ∷ 71 �
 abbrev pub mapsWith : ℕ → List ℕ
 mapsWith n = 0 ∷ 4 ∷ 4 ∷ n ∷ 7 ∷ 2 ∷ []
 
--- a parse into tables that held other words, and what it leaves
+-- a parse into tables that held other words
 unfoldable pub parsedF : List ℕ → ParseOut
 parsedF f = parsed f (replicate 36 9) (mapsWith 2)
 
+-- what it leaves
 abbrev pub left : ParseOut
 left = out (Accepted psbtF 9 3) pairsLeft (mapsWith 3)
 
+-- of the first file
 pub parses-H : parsedF fileH ≡ left
 unfolding computes parsedF
 parses-H = refl
 
+-- and of the second
 pub parses-T : parsedF fileT ≡ left
 unfolding computes parsedF
 parses-T = refl
@@ -71,17 +75,18 @@ txOver f M s = unsignedTx (view f pairsLeft M s) s fresh [] (replicate 61 9)
 abbrev after : State
 after = record { set = false; written = true }
 
--- over what the parse left: the lock 800,000, and 7
+-- over what the parse left: the lock 800,000
 pub lock-kept : txOver fileH (mapsWith 3) psbtF ≡ txOut (Written 61 after) (txF (0x00 ∷ 0x35 ∷ 0x0c ∷ 0x00 ∷ []))
 unfolding computes txOver
 lock-kept = refl
 
+-- and for the second file refusal 7
 pub clock-refused : txOver fileT (mapsWith 3) psbtF ≡ txOut (Refused BadValue) (replicate 61 9)
 unfolding computes txOver
 clock-refused = refl
 
--- both are runs of which the claims speak
 module _ (f : List ℕ) (r : UnsignedTx) (B : List ℕ) where
+  -- a parse and a transaction over what it left are a run of which the claims speak
   runOf : parsedF f ≡ left → txOver f (mapsWith 3) psbtF ≡ txOut r B → Run f
   unfolding parsedF txOver toldParse toldTxOut
   runOf p c = record {
@@ -101,30 +106,38 @@ module _ (f : List ℕ) (r : UnsignedTx) (B : List ℕ) where
     calls = sym (ap toldTxOut c);
   }
 
+-- so is that of the first file
 pub run-H : Run fileH
 run-H = runOf fileH _ _ parses-H lock-kept
 
+-- and that of the second
 pub run-T : Run fileT
 run-T = runOf fileT _ _ parses-T clock-refused
 
--- the lock honours the first file, and the greatest time of the second is too small
+-- the lock honours the first file
 pub file-kept : KeptBy (reading fileH) 800_000
 unfolding computes outcome reading insOf
-file-kept = record { met = (honours-meets 800_000 _ (byHeight 800_000 refl tt (omega arith) (omega arith)), tt); honoured = (byHeight 800_000 refl tt (omega arith) (omega arith), tt) }
+file-kept = record {
+  met = (honours-meets 800_000 _ (byHeight 800_000 refl tt (omega arith) (omega arith)), tt);
+  honoured = (byHeight 800_000 refl tt (omega arith) (omega arith), tt);
+}
 
+-- the greatest time of the second is too small
 pub clock-fallen : Fallen (reading fileT)
 unfolding computes outcome reading insOf
 clock-fallen = ((86_400, 0, (_, refl, refl)), ((λ n e. omega (arith, e)), tt))
 
--- with one word of the map table changed all maps are still fit, and the lock is 0; so it is with the report of E; and 0 does not honour the file
+-- with one word of the map table changed all maps are still fit, and the lock is 0
 pub word-changed : txOver fileH (mapsWith 2) psbtF ≡ txOut (Written 61 after) (txF (0 ∷ 0 ∷ 0 ∷ 0 ∷ []))
 unfolding computes txOver
 word-changed = refl
 
+-- so it is with the report of E
 pub report-changed : txOver fileH (mapsWith 3) psbtE ≡ txOut (Written 10 after) (txE ++ replicate 51 9)
 unfolding computes txOver
 report-changed = refl
 
+-- and 0 does not honour the file
 pub file-unkept : KeptBy (reading fileH) 0 → ⊥
 unfolding computes outcome reading insOf
 file-unkept k = absurd (omega (arith, k .met .0 .height 800_000 refl .1))

@@ -51,13 +51,15 @@ all-map : {A B : Type 0} (P : A → Type 0) (Q : B → Type 0) (f : A → B) →
 all-map P Q f k [] h = tt
 all-map P Q f k (x ∷ xs) h = (k x (h .0), all-map P Q f k xs (h .1))
 
-gather-by : (w : View) (g : Gathered) (l : List (List Pair)) → gatherBy w g ≡ gathered l → (ps : List Pair) × (r : List (List Pair)) × (w ≡ shows ps) × (g ≡ gathered r) × (ps ∷ r ≡ l)
+gather-by : (w : View) (g : Gathered) (l : List (List Pair))
+    → gatherBy w g ≡ gathered l → (ps : List Pair) × (r : List (List Pair)) × (w ≡ shows ps) × (g ≡ gathered r) × (ps ∷ r ≡ l)
 unfolding gatherBy
 gather-by (hides e) g l q = let z : _≡_ {A = ℕ} 0 1 = cc in absurd (omega arith)
 gather-by (shows ps) (unfit e) l q = let z : _≡_ {A = ℕ} 0 1 = cc in absurd (omega arith)
 gather-by (shows ps) (gathered r) l q = (ps, r, refl, refl, (cc))
 
-gather-all : (v : ℕ → View) (P : List Pair → Type 0) → ((m : ℕ) (ps : List Pair) → v m ≡ shows ps → P ps) → (i n : ℕ) (l : List (List Pair)) → gather v i n ≡ gathered l → All P l
+gather-all : (v : ℕ → View) (P : List Pair → Type 0) → ((m : ℕ) (ps : List Pair) → v m ≡ shows ps → P ps)
+    → (i n : ℕ) (l : List (List Pair)) → gather v i n ≡ gathered l → All P l
 unfolding gather
 gather-all v P h i zero l q = let e : [] ≡ l = cc in subst (All P) e tt
 gather-all v P h i (suc n) l q =
@@ -112,7 +114,8 @@ module _ (v : ℕ → View) (s : Psbt) (t : State) (T B : List ℕ) (ins : List 
   call-writes : transaction s ins outs (setSoFar t T) ≡ writes (take n B′)
   unfolding unsignedTx txReported
   call-writes =
-      pick-by (λ (x : Tx). x ≡ writes (take n B′) → transaction s ins outs (setSoFar t T) ≡ writes (take n B′)) (tableFits t outs T) _ _ (λ p q. q) (λ p q. never-writes q)
+      pick-by (λ (x : Tx). x ≡ writes (take n B′) → transaction s ins outs (setSoFar t T) ≡ writes (take n B′))
+      (tableFits t outs T) _ _ (λ p q. q) (λ p q. never-writes q)
       (written-is t t′ B B′ n (txReported s t T (reports ins outs)) (rw r at call))
 
   pub call-meets : All (Meets (lockIn (take n B′))) ins
@@ -122,6 +125,7 @@ module _ (v : ℕ → View) (s : Psbt) (t : State) (T B : List ℕ) (ins : List 
   call-honours = honours s ins outs (setSoFar t T) (take n B′) (times-fit v s ins outs bytes r) call-writes
 
 -- the same of a file of bytes, whatever its tables hold
-pub file-honours : (f P M : List ℕ) (s : Psbt) (t : State) (T B : List ℕ) (ins : List In) (outs : List Out) → All Byte f → reported (view f P M s) s ≡ reports ins outs
+pub file-honours : (f P M : List ℕ) (s : Psbt) (t : State) (T B : List ℕ) (ins : List In) (outs : List Out)
+    → All Byte f → reported (view f P M s) s ≡ reports ins outs
     → (n : ℕ) (t′ : State) (B′ : List ℕ) → unsignedTx (view f P M s) s t T B ≡ txOut (Written n t′) B′ → All (Honours (lockIn (take n B′))) ins
 file-honours f P M s t T B ins outs h r n t′ B′ call = call-honours (view f P M s) s t T B ins outs r (view-bytes f P M s h) n t′ B′ call

@@ -7,7 +7,8 @@ use native.Mathlib.Omega.{arith}
 use borrow.Author.Tests.{ltb-true, ltb-false, leb-true, leb-false}
 use lib.Dec.{ltb, leb}
 use Rattle.format.specs.Tests.{pick, keepIf}
-use Rattle.format.specs.Locks.{Sized, missing, misfit, is, In, Asked, threshold, along, askedBy, heights, times, isMisfit, misfitBy, misfits, greatest, heightLock, timeLock, decideBy, wellFormed, decide}
+use Rattle.format.specs.Locks.{Sized, missing, misfit, is, In, Asked, threshold, along, askedBy, heights, times, isMisfit}
+use Rattle.format.specs.Locks.{misfitBy, misfits, greatest, heightLock, timeLock, decideBy, wellFormed, decide}
 use Rattle.format.specs.declared.Maybe.{Maybe}
 use Rattle.format.specs.declared.Lock.{Lock}
 use Rattle.format.proofs.Tests.{pick-by, never-true}
@@ -69,7 +70,8 @@ lists field ins = record {
 greatest-is : (P : Asked → Type 0) (a : Asked) (l : List Asked) → All P (a ∷ l) → P (greatest a l)
 unfolding greatest
 greatest-is P a [] h = h .0
-greatest-is P a (b ∷ l) h = greatest-is P (pick (ltb (a .number) (b .number)) b a) l (pick-by P (ltb (a .number) (b .number)) b a (λ q. h .1 .0) (λ q. h .0), h .1 .1)
+greatest-is P a (b ∷ l) h =
+    greatest-is P (pick (ltb (a .number) (b .number)) b a) l (pick-by P (ltb (a .number) (b .number)) b a (λ q. h .1 .0) (λ q. h .0), h .1 .1)
 
 greatest-most : (a : Asked) (l : List Asked) → All (λ b. b .number ≤ greatest a l .number) (a ∷ l)
 unfolding greatest
@@ -102,7 +104,8 @@ module _ (fallback : Maybe) (ins : List In) where
       pick-by (Says fallback ins) (leb threshold (greatest a ts .number)) _ _ (λ q. (w, g, leb-true _ _ q)) (λ q. (w, g, leb-false _ _ q))
   says-by (a ∷ hs) (b ∷ ts) h t w = (w, (a .number, h .only .0), (b .number, t .only .0))
 
-  says-formed : (ms : List ℕ) (l : Lock) → All (λ i. (x : In) × At ins i x × IsMalformed x) ms → (ms ≡ [] → Says fallback ins l) → Says fallback ins (wellFormed ms l)
+  says-formed : (ms : List ℕ) (l : Lock) → All (λ i. (x : In) × At ins i x × IsMalformed x) ms
+      → (ms ≡ [] → Says fallback ins l) → Says fallback ins (wellFormed ms l)
   unfolding wellFormed
   says-formed [] l h k = k refl
   says-formed (i ∷ ms) l h k = h .0
@@ -112,7 +115,8 @@ module _ (fallback : Maybe) (ins : List In) where
   unfolding decide heights times misfits misfitBy
   decided l e = subst (Says fallback ins) e
       (says-formed (misfits 0 ins) (decideBy fallback (heights 0 ins) (times 0 ins))
-      (along-only _ misfitBy 0 ins (λ j x a. kept-only _ (isMisfit (x .height) || isMisfit (x .time)) (0 + j) (λ m. let z : 0 + j ≡ j = omega arith in rw z (x, a, m))))
+      (along-only _ misfitBy 0 ins
+      (λ j x a. kept-only _ (isMisfit (x .height) || isMisfit (x .time)) (0 + j) (λ m. let z : 0 + j ≡ j = omega arith in rw z (x, a, m))))
       (λ n. says-by (heights 0 ins) (times 0 ins) (lists (λ x. x .height) ins) (lists (λ x. x .time) ins)
       (along-all (λ i. ⊥) misfitBy _ (λ j x. kept-all (isMisfit (x .height) || isMisfit (x .time)) j) 0 ins (rw n tt))))
 

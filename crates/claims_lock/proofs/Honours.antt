@@ -13,7 +13,8 @@ use Rattle.format.specs.declared.Lock.{Lock}
 use Rattle.format.specs.declared.Lock.the-variants.{Refused, Height, Time, Fallback, BothKinds, HeightTooGreat, TimeTooSmall, Malformed}
 use Rattle.format.proofs.Tests.{never-true}
 use Rattle.format.proofs.Numbers.{All}
-use Rattle.claims_lock.specs.Honours.{Spells, AsksHeight, AsksTime, IsMalformed, Meets, Lacking, Honours, asksNothing, byHeight, byTime, lockIn, At, AskedAt, EachAsked, NoneAsked, TimesFit, WellFormed, Greatest, Says}
+use Rattle.claims_lock.specs.Honours.{Spells, AsksHeight, AsksTime, IsMalformed, Meets, Lacking, Honours, asksNothing, byHeight}
+use Rattle.claims_lock.specs.Honours.{byTime, lockIn, At, AskedAt, EachAsked, NoneAsked, TimesFit, WellFormed, Greatest, Says}
 use Rattle.claims_lock.proofs.Decisions.{decided, unheard}
 use Rattle.claims_lock.proofs.Ends.{never-writes, lock-ends}
 
@@ -148,7 +149,8 @@ module _ (s : Psbt) (ins : List In) (outs : List Out) (T : List ℕ) where
   honours b fit q = all-both _ _ _ (meets-honours (lockIn b)) ins (meets b fit q) (well-formed b q)
 
   -- where no input asks, it is the fallback
-  pub lock-of-none : (b : List ℕ) → NoneAsked AsksHeight ins → NoneAsked AsksTime ins → orZero (s .«fallback_locktime») < 2 ^ 32 → transaction s ins outs T ≡ writes b
+  pub lock-of-none : (b : List ℕ) → NoneAsked AsksHeight ins
+      → NoneAsked AsksTime ins → orZero (s .«fallback_locktime») < 2 ^ 32 → transaction s ins outs T ≡ writes b
       → lockIn b ≡ orZero (s .«fallback_locktime»)
   lock-of-none b h k fit =
       transaction-by (λ t. t ≡ writes b → lockIn b ≡ orZero (s .«fallback_locktime»)) never-writes

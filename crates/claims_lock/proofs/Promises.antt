@@ -64,7 +64,8 @@ module _ (s : Psbt) (t : State) (T B : List ℕ) where
   fallen-by (unfitMap e) h = absurd h
   fallen-by (reports ins outs) h = (_, ap (written t B) (fallen-refused s t T ins outs h))
 
--- of any file and tables whose greatest time asked for is below the threshold, and any outcome that meets the promise: it is a refusal, and the buffer is as it was
+-- of any file and tables whose greatest time asked for is below the threshold, and any outcome that
+-- meets the promise: it is a refusal, and the buffer is as it was
 pub fallen-clock-never : (f P M : List ℕ) (s : Psbt) (t : State) (T B : List ℕ) → FallenClock (reported (view f P M s) s)
     → (r : UnsignedTx) (B′ : List ℕ) → toldLeft (toldTx r) B′ ≡ toldTxOut (unsignedTx (view f P M s) s t T B)
     → ((e : PsbtError) × (r ≡ Refused e)) × (B′ ≡ B)

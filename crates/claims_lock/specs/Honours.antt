@@ -20,10 +20,11 @@ Spells missing n = ⊥
 Spells misfit n = ⊥
 Spells (is v) n = le v ≡ n
 
--- input x asks for height h; for time t
+-- input x asks for height h
 abbrev pub AsksHeight : In → ℕ → Type 0
 AsksHeight x h = Spells (x .height) h
 
+-- input x asks for time t
 abbrev pub AsksTime : In → ℕ → Type 0
 AsksTime x t = Spells (x .time) t
 
@@ -62,10 +63,11 @@ At (y ∷ ys) (suc i) x = At ys i x
 abbrev pub AskedAt : (In → ℕ → Type 0) → ℕ → ℕ → List In → Type 0
 AskedAt asks n i ins = (x : In) × At ins i x × asks x n
 
--- whatever number an input asks for has P; none asks
+-- whatever number an input asks for has P
 abbrev pub EachAsked : (In → ℕ → Type 0) → (ℕ → Type 0) → List In → Type 0
 EachAsked asks P ins = All (λ x. (n : ℕ) → asks x n → P n) ins
 
+-- no input asks
 abbrev pub NoneAsked : (In → ℕ → Type 0) → List In → Type 0
 NoneAsked asks ins = EachAsked asks (λ n. ⊥) ins
 
@@ -73,10 +75,11 @@ NoneAsked asks ins = EachAsked asks (λ n. ⊥) ins
 abbrev pub TimesFit : List In → Type 0
 TimesFit ins = EachAsked AsksTime (λ t. t < 2 ^ 32) ins
 
--- pairs whose values are bytes; maps that show such pairs
+-- pairs whose values are bytes
 abbrev pub ByteValues : List Pair → Type 0
 ByteValues ps = All (λ p. All Byte (p .value)) ps
 
+-- maps that show such pairs
 abbrev pub ShowsBytes : (ℕ → View) → Type 0
 ShowsBytes v = (m : ℕ) (ps : List Pair) → v m ≡ shows ps → ByteValues ps
 

@@ -8,7 +8,9 @@ use lib.Dec.{leb}
 use lib.ListN.{length, take, drop, length-append, take-append-drop}
 use Rattle.format.specs.Keys.{same}
 use Rattle.format.specs.Content.{Pair, Map, Content, mapsOf, magic, pairBytes, pairsBytes, mapBytes, mapsBytes, bytes, psbtOf}
-use Rattle.format.specs.Reading.{limit, FieldRule, Item, stop, over, one, item, Mapped, ends, stops, front, turn, items, mapped, Reading, done, refusal, begins, ended, pairEvents, mapEvents, mapsEvents, unless, Version, two, lastly, globalThen, eventsOf, events, Verdict, accepted, refused, outcome, readingOf, reading}
+use Rattle.format.specs.Reading.{limit, FieldRule, Item, stop, over, one, item, Mapped, ends, stops, front, turn, items, mapped, Reading}
+use Rattle.format.specs.Reading.{done, refusal, begins, ended, pairEvents, mapEvents, mapsEvents, unless, Version, two, lastly, globalThen}
+use Rattle.format.specs.Reading.{eventsOf, events, Verdict, accepted, refused, outcome, readingOf, reading}
 use Rattle.format.specs.Tables.{mapsReported}
 use Rattle.format.specs.declared.Ruled.{Ruled}
 use Rattle.format.specs.declared.Ruled.the-variants.{Passed, Refused}
@@ -29,7 +31,8 @@ unfolding pairsBytes
 pairs-some [] r f = omega arith
 pairs-some (p ∷ ps) r f = omega (arith, pair-some p (pairsBytes ps r) (f .0), pairs-some ps r (f .1))
 
-items-of : (n : ℕ) (ρ : FieldRule) (last : List ℕ) (ps : List Pair) (e r : List ℕ) → Fine ρ last ps → Spells e 0 → length ps < n → items n ρ last (pairsBytes ps (e ++ r)) ≡ ends ps e r
+items-of : (n : ℕ) (ρ : FieldRule) (last : List ℕ) (ps : List Pair) (e r : List ℕ)
+    → Fine ρ last ps → Spells e 0 → length ps < n → items n ρ last (pairsBytes ps (e ++ r)) ≡ ends ps e r
 unfolding items turn front pairsBytes
 items-of zero ρ last ps e r h s l = absurd (omega arith)
 items-of (suc n) ρ last [] e r h s l = rw (item-over ρ last e r s)
@@ -53,17 +56,27 @@ unfolding mapsTrace
 trace-append [] ns t = refl
 trace-append (m ∷ ms) ns t = ap (λ (r : Reading). begins (pairEvents (m .pairs) (ended (m .end) r))) (trace-append ms ns t)
 
-maps-events : (ρ : FieldRule) (ms : List Map) (r : List ℕ) (j : List Map → List ℕ → Reading) → All (FineMap ρ) ms → mapsEvents ρ (length ms) (mapsBytes ms r) j ≡ mapsTrace ms (j ms r)
+maps-events : (ρ : FieldRule) (ms : List Map) (r : List ℕ) (j : List Map → List ℕ → Reading)
+    → All (FineMap ρ) ms → mapsEvents ρ (length ms) (mapsBytes ms r) j ≡ mapsTrace ms (j ms r)
 unfolding mapsEvents mapsBytes mapsTrace mapEvents
 maps-events ρ [] r j h = refl
-maps-events ρ (m ∷ ms) r j h = rw (mapped-of ρ m (mapsBytes ms r) (h .0)) (ap (λ (x : Reading). begins (pairEvents (m .pairs) (ended (m .end) x))) (maps-events ρ ms r (λ ns q. j (m ∷ ns) q) (h .1)))
+maps-events ρ (m ∷ ms) r j h = rw (mapped-of ρ m (mapsBytes ms r) (h .0))
+    (ap (λ (x : Reading). begins (pairEvents (m .pairs) (ended (m .end) x))) (maps-events ρ ms r (λ ns q. j (m ∷ ns) q) (h .1)))
 
 events-of : (v : Version) (c : Content) → FineOf v c → eventsOf v (bytes c) ≡ mapsTrace (mapsOf c) (done c)
 unfolding eventsOf bytes mapEvents globalThen unless lastly mapsOf mapsTrace
 events-of v c h =
-    rw (le-leb _ _ (h .short), same-self magic, mapped-of (v .global) (c .global) (mapsBytes (c .ins) (mapsBytes (c .outs) [])) (h .global), h .rule, ← h .ins#, ← h .outs#)
+    rw (
+      le-leb _ _ (h .short),
+      same-self magic,
+      mapped-of (v .global) (c .global) (mapsBytes (c .ins) (mapsBytes (c .outs) [])) (h .global),
+      h .rule,
+      ← h .ins#,
+      ← h .outs#,
+    )
     (ap (λ (x : Reading). begins (pairEvents (c .global .pairs) (ended (c .global .end) x)))
-    (maps-events (v .input) (c .ins) (mapsBytes (c .outs) []) _ (h .ins) ∙ ap (mapsTrace (c .ins)) (maps-events (v .output) (c .outs) [] _ (h .outs) ∙ ap (mapsTrace (c .outs)) (rw (h .late))) ∙ sym (trace-append (c .ins) (c .outs) (done c))))
+    (maps-events (v .input) (c .ins) (mapsBytes (c .outs) []) _ (h .ins) ∙ ap (mapsTrace (c .ins))
+    (maps-events (v .output) (c .outs) [] _ (h .outs) ∙ ap (mapsTrace (c .outs)) (rw (h .late))) ∙ sym (trace-append (c .ins) (c .outs) (done c))))
 
 pairs-outcome : (ps : List Pair) (t : Reading) → outcome (pairEvents ps t) ≡ outcome t
 unfolding outcome pairEvents
@@ -98,7 +111,8 @@ front-is ρ last s r p (ends ps e q) i h = (
   h .2,
 )
 
-turn-is : (ρ : FieldRule) (last s : List ℕ) (j : List ℕ → List ℕ → Mapped) → ((l t : List ℕ) → MappedIs ρ l t (j l t)) → (o : Item) → ItemIs ρ last s o → MappedIs ρ last s (turn j o)
+turn-is : (ρ : FieldRule) (last s : List ℕ) (j : List ℕ → List ℕ → Mapped)
+    → ((l t : List ℕ) → MappedIs ρ l t (j l t)) → (o : Item) → ItemIs ρ last s o → MappedIs ρ last s (turn j o)
 unfolding turn pairsBytes
 turn-is ρ last s j h (stop e) i = tt
 turn-is ρ last s j h (over a r) i = (i .0, record { framed = tt; rises = tt; keeps = tt }, i .1)
@@ -125,7 +139,8 @@ map-holds : (v : Version) (f : List ℕ) (ρ : FieldRule) (s : List ℕ) (j : Ma
     → ((m : Map) (r : List ℕ) → mapBytes m r ≡ s → FineMap ρ m → Holds v f (j m r)) → (o : Mapped) → MappedIs ρ [] s o → Holds v f (mapEvents j o)
 unfolding mapEvents mapBytes outcome
 map-holds v f ρ s j h (stops ps e) i = rw (pairs-outcome ps (refusal e)) tt
-map-holds v f ρ s j h (ends ps e r) i = rw (pairs-outcome ps (ended e (j (record { pairs = ps; end = e }) r))) (h (record { pairs = ps; end = e }) r (i .0) (record { pairs = i .1; end = i .2 }))
+map-holds v f ρ s j h (ends ps e r) i = rw (pairs-outcome ps (ended e (j (record { pairs = ps; end = e }) r)))
+    (h (record { pairs = ps; end = e }) r (i .0) (record { pairs = i .1; end = i .2 }))
 
 maps-hold : (v : Version) (f : List ℕ) (ρ : FieldRule) (n : ℕ) (s : List ℕ) (j : List Map → List ℕ → Reading)
     → ((ms : List Map) (r : List ℕ) → mapsBytes ms r ≡ s → All (FineMap ρ) ms → length ms ≡ n → Holds v f (j ms r)) → Holds v f (mapsEvents ρ n s j)
@@ -136,14 +151,19 @@ maps-hold v f ρ (suc n) s j h =
     (mapped ρ s) (items-is (suc (length s)) ρ [] s)
 
 module _ (v : Version) (f s : List ℕ) (is : magic ++ s ≡ f) (short : length f ≤ limit) where
-  lastly-holds : (g : Map) (ms os : List Map) (q : List ℕ) → mapBytes g (mapsBytes ms (mapsBytes os q)) ≡ s → FineMap (v .global) g → v .early (g .pairs) ≡ Passed
-      → All (FineMap (v .input)) ms → length ms ≡ v .inputs (g .pairs) → All (FineMap (v .output)) os → length os ≡ v .outputs (g .pairs) → Holds v f (lastly v g ms os q)
+  lastly-holds : (g : Map) (ms os : List Map) (q : List ℕ)
+      → mapBytes g (mapsBytes ms (mapsBytes os q)) ≡ s → FineMap (v .global) g → v .early (g .pairs) ≡ Passed
+      → All (FineMap (v .input)) ms → length ms ≡ v .inputs (g .pairs)
+      → All (FineMap (v .output)) os → length os ≡ v .outputs (g .pairs) → Holds v f (lastly v g ms os q)
   unfolding lastly outcome bytes
   lastly-holds g ms os (x ∷ q) e G z I i# O o# = tt
   lastly-holds g ms os [] e G z I i# O o# =
       let b : magic ++ mapBytes g (mapsBytes ms (mapsBytes os [])) ≡ f = rw e is in
       unless-holds v f _ (v .late (g .pairs) os)
-      (λ t. (b, record { global = G; ins = I; outs = O; rule = z; ins# = i#; outs# = o#; late = t; short = subst (λ (x : List ℕ). length x ≤ limit) (sym b) short }))
+      (λ t. (
+        b,
+        record { global = G; ins = I; outs = O; rule = z; ins# = i#; outs# = o#; late = t; short = subst (λ (x : List ℕ). length x ≤ limit) (sym b) short },
+      ))
 
   global-holds : (g : Map) (r : List ℕ) → mapBytes g r ≡ s → FineMap (v .global) g → Holds v f (globalThen v g r)
   unfolding globalThen
@@ -158,7 +178,8 @@ verdict-is v f =
     pick-by (Holds v f) (leb (length f) limit) _ _
     (λ l. pick-by (Holds v f) (same (take 5 f) magic) _ _
     (λ t. map-holds v f (v .global) (drop 5 f) (globalThen v)
-    (global-holds v f (drop 5 f) (ap (λ (x : List ℕ). x ++ drop 5 f) (sym (same-is _ _ t)) ∙ take-append-drop 5 f) (leb-true _ _ l)) _ (items-is _ (v .global) [] (drop 5 f)))
+    (global-holds v f (drop 5 f) (ap (λ (x : List ℕ). x ++ drop 5 f) (sym (same-is _ _ t)) ∙ take-append-drop 5 f) (leb-true _ _ l)) _
+    (items-is _ (v .global) [] (drop 5 f)))
     (λ t. tt))
     (λ l. tt)
 

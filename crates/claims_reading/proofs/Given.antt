@@ -12,12 +12,18 @@ use Rattle.format.specs.Content.{magic, Found, absent, found}
 use Rattle.format.specs.Reading.{Reading, done, refusal, begins, pair, ended, events}
 use Rattle.format.specs.Entries.{pairWords, mapWords, hasRoom, putPair, putMap, pairEntries, mapEntries, entryOf, width, keyIn, shown}
 use Rattle.format.specs.Parse.{ParseOut, out, cut, parsed}
-use Rattle.format.specs.Tables.{fit, Held, no, holds, fitted, heldBy, mapsReported, held, heldInput, heldOutput, View, hides, shows, viewOf, view, Gathered, unfit, gathered, gatherBy, gather}
+use Rattle.format.specs.Tables.{fit, Held, no, holds, fitted, heldBy, mapsReported, held, heldInput, heldOutput}
+use Rattle.format.specs.Tables.{View, hides, shows, viewOf, view, Gathered, unfit, gathered, gatherBy, gather}
 use Rattle.format.specs.Lookups.{place, Length, anyLength, keyList, exactly, lengthFits, ofLength, asked, look, numberAt, list, nthOf, nth}
-use Rattle.format.specs.Fields.{partField, numberField, witnessUtxo, scanLookup, musigLookup, inputParticipants, outputParticipants, participantCount, participant, utxoOf, utxoBy, getWitnessUtxo}
-use Rattle.format.specs.Locks.{Sized, missing, misfit, is, In, Asked, heights, times, misfits, threshold, greatest, heightLock, timeLock, decideBy, wellFormed, decide, Locked, unlocked, locked, lockOf}
-use Rattle.format.specs.Scripts.{Out, outOf, Reported, unfitMap, reports, reportedBy, reported, Given, whole, cutShort, scriptEntry, rightFor, settable, setOut, setTable, setGiven, setBy, setScripts}
-use Rattle.format.specs.Transaction.{tableFits, setSoFar, scriptOf, Tx, refuses, writes, ahead, needs, orFinal, inputThen, inputsThen, needsScript, outputThen, outputsThen, txWith, txBy, transaction, txReported, txOut, written, unsignedTx, lockBy, lockDecided, scriptPlace, outputScript}
+use Rattle.format.specs.Fields.{partField, numberField, witnessUtxo, scanLookup, musigLookup, inputParticipants, outputParticipants}
+use Rattle.format.specs.Fields.{participantCount, participant, utxoOf, utxoBy, getWitnessUtxo}
+use Rattle.format.specs.Locks.{Sized, missing, misfit, is, In, Asked, heights, times, misfits, threshold, greatest, heightLock}
+use Rattle.format.specs.Locks.{timeLock, decideBy, wellFormed, decide, Locked, unlocked, locked, lockOf}
+use Rattle.format.specs.Scripts.{Out, outOf, Reported, unfitMap, reports, reportedBy, reported, Given, whole, cutShort}
+use Rattle.format.specs.Scripts.{scriptEntry, rightFor, settable, setOut, setTable, setGiven, setBy, setScripts}
+use Rattle.format.specs.Transaction.{tableFits, setSoFar, scriptOf, Tx, refuses, writes, ahead, needs, orFinal, inputThen}
+use Rattle.format.specs.Transaction.{inputsThen, needsScript, outputThen, outputsThen, txWith, txBy, transaction, txReported}
+use Rattle.format.specs.Transaction.{txOut, written, unsignedTx, lockBy, lockDecided, scriptPlace, outputScript}
 use Rattle.format.specs.declared.PsbtError.{PsbtError}
 use Rattle.format.specs.declared.PsbtError.the-variants.{BadValue, OutOfRange, MissingOutputScript, InvalidOutputScripts, PairsFull, MapsFull, BadIndex, NoRoom}
 use Rattle.format.specs.declared.Maybe.{Maybe}
@@ -91,7 +97,8 @@ cut-gives (begins r) zero at p m i P M h =
     pick-by Parses (hasRoom mapWords m M) _ _ (λ t. cut-gives r 1 at p m i P M h) (λ t e p′ m′ P′ M′ q. cc maps-full)
 cut-gives (begins r) (suc o) at p m i P M h = absurd h
 cut-gives (pair x r) o at p m i P M h =
-    pick-by Parses (hasRoom pairWords p P) _ _ (λ t. cut-gives r o (at + width x) (p + 1) m i (putPair P p (entryOf at x)) M h) (λ t e p′ m′ P′ M′ q. cc pairs-full)
+    pick-by Parses (hasRoom pairWords p P) _ _ (λ t. cut-gives r o (at + width x) (p + 1) m i (putPair P p (entryOf at x)) M h)
+    (λ t e p′ m′ P′ M′ q. cc pairs-full)
 cut-gives (ended a r) zero at p m i P M h = absurd h
 cut-gives (ended a r) (suc o) at p m i P M h = cut-gives r o (at + length a) p (m + 1) p P (putMap M m (record { first = i; count = p - i })) h
 
@@ -199,7 +206,8 @@ module _ (f : List ℕ) (h : Held) (g : Gives no h) where
       by (Refused x) k = λ e q. cc (k x refl)
       by Absent k = λ e q. cc
       by (At s n) k =
-          pick-by (Gives U.Refused) (leb 9 (length (take n (drop s f))) && (leb (getD (take n (drop s f)) 8 0) 0xfc && eqb (length (take n (drop s f))) (9 + getD (take n (drop s f)) 8 0))) _ _
+          pick-by (Gives U.Refused) (leb 9 (length (take n (drop s f)))
+          && (leb (getD (take n (drop s f)) 8 0) 0xfc && eqb (length (take n (drop s f))) (9 + getD (take n (drop s f)) 8 0))) _ _
           (λ t e q. cc) (λ t e q. cc bad-value)
 
 pub participant-gives : (i : ℕ) (y : Looked) → Gives Refused y → Gives Refused (participant i y)
@@ -243,7 +251,8 @@ reported-by-gives n (unfit x) k = λ e q. cc (k x refl)
 reported-by-gives n (gathered xs) k = λ e q. cc
 
 -- the setter
-set-gives : (buffer : List ℕ) (t : State) (T T′ : List ℕ) (a : Given) (r : Reported) → Gives unfitMap r → Gives (λ e. setOut (S.Refused e) T′) (setBy buffer t T a r)
+set-gives : (buffer : List ℕ) (t : State) (T T′ : List ℕ) (a : Given) (r : Reported)
+    → Gives unfitMap r → Gives (λ e. setOut (S.Refused e) T′) (setBy buffer t T a r)
 unfolding setBy setGiven setTable
 set-gives buffer t T T′ a (unfitMap x) k = λ e q. cc (k x refl)
 set-gives buffer t T T′ cutShort (reports ins outs) k = λ e q. cc invalid-scripts
@@ -308,12 +317,14 @@ script-gives (found b) k g = g b
 inputs-give : (xs : List In) (t : Tx) → Gives refuses t → Gives refuses (inputsThen xs t)
 unfolding inputsThen inputThen
 inputs-give [] t k = k
-inputs-give (x ∷ xs) t k = needs-gives (x .txid) _ (λ a. needs-gives (x .index) _ (λ b. needs-gives (orFinal (x .sequence)) _ (λ c. ahead-gives _ _ (inputs-give xs t k))))
+inputs-give (x ∷ xs) t k = needs-gives (x .txid) _
+    (λ a. needs-gives (x .index) _ (λ b. needs-gives (orFinal (x .sequence)) _ (λ c. ahead-gives _ _ (inputs-give xs t k))))
 
 outputs-give : (os : List Out) (T : List ℕ) (t : Tx) → Gives refuses t → Gives refuses (outputsThen os T t)
 unfolding outputsThen outputThen
 outputs-give [] T t k = k
-outputs-give (o ∷ os) T t k = needs-gives (o .amount) _ (λ a. script-gives (scriptOf (o .script) (take scriptEntry T)) _ (λ b. ahead-gives _ _ (outputs-give os (drop scriptEntry T) t k)))
+outputs-give (o ∷ os) T t k = needs-gives (o .amount) _
+    (λ a. script-gives (scriptOf (o .script) (take scriptEntry T)) _ (λ b. ahead-gives _ _ (outputs-give os (drop scriptEntry T) t k)))
 
 tx-by-gives : (s : Psbt) (ins : List In) (outs : List Out) (T : List ℕ) (l : Locked) → Gives unlocked l → Gives refuses (txBy s ins outs T l)
 unfolding txBy txWith

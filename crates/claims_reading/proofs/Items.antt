@@ -94,7 +94,8 @@ module _ (ρ : FieldRule) (last s : List ℕ) where
       (rw (take-append-drop n (drop u r), take-append-drop u r) e) (record { klen = h; vlen = rw m (w .2); some = l }) o _ refl)
       (λ t. tt)
 
-  risen-is : (a key r : List ℕ) → a ++ (key ++ r) ≡ s → Spells a (length key) → 0 < length key → (o : Order) → order last key ≡ o → ItemIs ρ last s (risen ρ a key r o)
+  risen-is : (a key r : List ℕ) → a ++ (key ++ r) ≡ s → Spells a (length key)
+      → 0 < length key → (o : Order) → order last key ≡ o → ItemIs ρ last s (risen ρ a key r o)
   unfolding risen
   risen-is a key r e h l Below o = value-is a key r e h l o (size r) refl
   risen-is a key r e h l Same o = tt

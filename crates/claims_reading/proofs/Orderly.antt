@@ -10,7 +10,9 @@ use Rattle.format.specs.Compact.{size, count}
 use Rattle.format.specs.Keys.{typeOf, dataOf, order, same}
 use Rattle.format.specs.Rules.{GLOBAL, INPUT, OUTPUT, span, within, valueFits, isRow, rowRule, sizedTypes, sizesIn, sizes, countRule, bareRule, andThen, rule}
 use Rattle.format.specs.Content.{Pair, Map, magic, field, present, number, globalRule, modifiable, outputBy, outputRule, outputsRule}
-use Rattle.format.specs.Reading.{limit, FieldRule, Item, stop, over, one, ruled, valued, risen, keyed, itemBy, item, Mapped, ends, stops, front, turn, items, mapped, Reading, done, refusal, begins, pair, ended, pairEvents, mapEvents, mapsEvents, unless, two, lastly, globalThen, eventsOf, events}
+use Rattle.format.specs.Reading.{limit, FieldRule, Item, stop, over, one, ruled, valued, risen, keyed, itemBy, item, Mapped}
+use Rattle.format.specs.Reading.{ends, stops, front, turn, items, mapped, Reading, done, refusal, begins, pair, ended, pairEvents}
+use Rattle.format.specs.Reading.{mapEvents, mapsEvents, unless, two, lastly, globalThen, eventsOf, events}
 use Rattle.format.specs.declared.PsbtError.{PsbtError}
 use Rattle.format.specs.declared.Size.{Size}
 use Rattle.format.specs.declared.Size.the-variants.{Bad, Read}

@@ -36,7 +36,8 @@ module _ {A : Type 0} (f : A → List ℕ) (w : ℕ) (wide : (x : A) → length 
   joined-append [] ys = refl
   joined-append (x ∷ xs) ys = ap (λ (r : List ℕ). f x ++ r) (joined-append xs ys) ∙ sym (append-assoc (f x) (joined f xs) (joined f ys))
 
-  sets-joined : (t : List ℕ) (n k : ℕ) (xs ys : List A) → length xs ≡ k → sets (sets t (n * w) (joined f xs)) ((n + k) * w) (joined f ys) ≡ sets t (n * w) (joined f (xs ++ ys))
+  sets-joined : (t : List ℕ) (n k : ℕ) (xs ys : List A)
+      → length xs ≡ k → sets (sets t (n * w) (joined f xs)) ((n + k) * w) (joined f ys) ≡ sets t (n * w) (joined f (xs ++ ys))
   sets-joined t n k xs ys l =
       let e : (n + k) * w ≡ n * w + length (joined f xs) = rw (length-joined xs, l) (omega arith) in
       ap (λ (i : ℕ). sets (sets t (n * w) (joined f xs)) i (joined f ys)) e
@@ -87,18 +88,22 @@ out-same s a a′ b b′ P P′ M M′ e f g h = λ i. out (Accepted s (e i) (f 
 
 cut-maps : (ms : List Map) (c : Content) (at p m : ℕ) (P M : List ℕ) → (p + pairsIn ms) * pairWords ≤ length P → (m + length ms) * mapWords ≤ length M
     → cut at p m p P M (mapsTrace ms (done c))
-    ≡ out (Accepted (psbtOf (c .global .pairs)) (p + pairsIn ms) (m + length ms)) (sets P (p * pairWords) (joined pairEntryWords (mapsEntries at ms))) (sets M (m * mapWords) (joined mapEntryWords (runs p ms)))
+    ≡ out (Accepted (psbtOf (c .global .pairs)) (p + pairsIn ms) (m + length ms))
+    (sets P (p * pairWords) (joined pairEntryWords (mapsEntries at ms))) (sets M (m * mapWords) (joined mapEntryWords (runs p ms)))
 unfolding cut mapsTrace pairsIn mapsEntries behindMap runs joined putMap mapEntryWords
 cut-maps [] c at p m P M h l = ap₂ (λ (x y : ℕ). out (Accepted (psbtOf (c .global .pairs)) x y) P M) (omega arith) (omega arith)
 cut-maps (x ∷ ms) c at p m P M h l =
     rw (has-room mapWords m (length ms) M l)
     (cut-pairs (x .pairs) at p m p P M (ended (x .end) (mapsTrace ms (done c))) (omega arith)
-    ∙ ap (λ (n : ℕ). cut (behindMap at x) (p + length (x .pairs)) (m + 1) (p + length (x .pairs)) (sets P (p * pairWords) (joined pairEntryWords (entries at (x .pairs)))) (putMap M m (record { first = p; count = n })) (mapsTrace ms (done c)))
+    ∙ ap (λ (n : ℕ). cut (behindMap at x) (p + length (x .pairs)) (m + 1) (p + length (x .pairs))
+    (sets P (p * pairWords) (joined pairEntryWords (entries at (x .pairs)))) (putMap M m (record { first = p; count = n })) (mapsTrace ms (done c)))
     (add-sub-cancel-left p (length (x .pairs)))
-    ∙ cut-maps ms c (behindMap at x) (p + length (x .pairs)) (m + 1) (sets P (p * pairWords) (joined pairEntryWords (entries at (x .pairs)))) (putMap M m (record { first = p; count = length (x .pairs) }))
+    ∙ cut-maps ms c (behindMap at x) (p + length (x .pairs)) (m + 1) (sets P (p * pairWords) (joined pairEntryWords (entries at (x .pairs))))
+    (putMap M m (record { first = p; count = length (x .pairs) }))
     (rw length-sets (omega arith)) (rw length-sets (omega arith))
     ∙ out-same _ _ _ _ _ _ _ _ _ (omega arith) (omega arith)
-    (sets-joined pairEntryWords pairWords pair-wide P p (length (x .pairs)) (entries at (x .pairs)) (mapsEntries (behindMap at x) ms) (length-entries at (x .pairs)))
+    (sets-joined pairEntryWords pairWords pair-wide P p
+    (length (x .pairs)) (entries at (x .pairs)) (mapsEntries (behindMap at x) ms) (length-entries at (x .pairs)))
     (sets-joined mapEntryWords mapWords map-wide M m 1 (record { first = p; count = length (x .pairs) } ∷ []) (runs (p + length (x .pairs)) ms) refl))
 
 pub parse-is : (f : List ℕ) (c : Content) (P M : List ℕ) → reading f ≡ accepted c → Room c P M

@@ -10,6 +10,7 @@ use Rattle.format.proofs.Told.{parse-out-one}
 use Rattle.claims_reading.specs.Shown.{Accepts}
 use Rattle.claims_reading.proofs.Parsed.{accepted-is}
 
-pub promised-accepts : (f P M : List ℕ) (s : Psbt) (p m : ℕ) (P′ M′ : List ℕ) → toldWith (toldParsed (Accepted s p m)) P′ M′ ≡ toldParse (parsed f P M) → Accepts f P M s p m P′ M′
+pub promised-accepts : (f P M : List ℕ) (s : Psbt) (p m : ℕ) (P′ M′ : List ℕ)
+    → toldWith (toldParsed (Accepted s p m)) P′ M′ ≡ toldParse (parsed f P M) → Accepts f P M s p m P′ M′
 unfolding toldParse
 promised-accepts f P M s p m P′ M′ q = accepted-is f P M s p m P′ M′ (sym (parse-out-one (out (Accepted s p m) P′ M′) (parsed f P M) q))

@@ -88,7 +88,8 @@ pub reading-gives : (f : List ℕ) (e : PsbtError) → reading f ≡ refused e �
 unfolding reading
 reading-gives f e q = refused-of (events f) 0 e (events-orderly f) q
 
-pub never-full : (f P M : List ℕ) (e : PsbtError) (p m : ℕ) → Roomy (events f) P M → answer (parsed f P M) ≡ Refused e p m → (e ≡ PairsFull → ⊥) × (e ≡ MapsFull → ⊥)
+pub never-full : (f P M : List ℕ) (e : PsbtError) (p m : ℕ)
+    → Roomy (events f) P M → answer (parsed f P M) ≡ Refused e p m → (e ≡ PairsFull → ⊥) × (e ≡ MapsFull → ⊥)
 unfolding answerOf ofFile given within span numberOf
 never-full f P M e p m h q =
     let g : ofFile e ≡ true = by (reading f) refl (sym (room-answers f P M h) ∙ q) in

@@ -94,7 +94,8 @@ rest-pairs f at (p ∷ ps) x h = rest-pairs f (at + width p) ps x (rest-here f a
 
 rest-map : (f : List ℕ) (at : ℕ) (m : Map) (x : List ℕ) → drop at f ≡ mapBytes m x → drop (behindMap at m) f ≡ x
 unfolding behindMap mapBytes
-rest-map f at m x h = sym (drop-drop (length (m .end)) (behind at (m .pairs)) f) ∙ ap (drop (length (m .end))) (rest-pairs f at (m .pairs) (m .end ++ x) h) ∙ drop-append-seam (m .end) x
+rest-map f at m x h = sym (drop-drop (length (m .end)) (behind at (m .pairs)) f)
+    ∙ ap (drop (length (m .end))) (rest-pairs f at (m .pairs) (m .end ++ x) h) ∙ drop-append-seam (m .end) x
 
 shown-here : (f : List ℕ) (at : ℕ) (ps : List Pair) (x : List ℕ) → drop at f ≡ pairsBytes ps x → map (shown f) (entries at ps) ≡ map bare ps
 unfolding entries pairsBytes
@@ -102,7 +103,8 @@ shown-here f at [] x h = refl
 shown-here f at (p ∷ ps) x h =
     ap₂ (λ (y : Pair) (l : List Pair). y ∷ l) (shown-one f at p (pairsBytes ps x) h) (shown-here f (at + width p) ps x (rest-here f at p (pairsBytes ps x) h))
 
-fit-here : (f last : List ℕ) (at : ℕ) (ps : List Pair) (x : List ℕ) → drop at f ≡ pairsBytes ps x → All Framed ps → Rises last ps → fit f last (entries at ps) ≡ true
+fit-here : (f last : List ℕ) (at : ℕ) (ps : List Pair) (x : List ℕ)
+    → drop at f ≡ pairsBytes ps x → All Framed ps → Rises last ps → fit f last (entries at ps) ≡ true
 unfolding fit entries pairsBytes below isBelow
 fit-here f last at [] x h F R = refl
 fit-here f last at (p ∷ ps) x h F R =
@@ -135,7 +137,8 @@ unfolding mapsBytes mapBytes mapsEntries runs heldBy fitted entriesBy
 held-here f es m [] at p r B X F E l G h = absurd (omega arith)
 held-here f es m (x ∷ ms) at p r B X F E l G h =
     by m h (λ n k. held-here f es n ms (behindMap at x) (p + length (x .pairs)) r B X (rest-map f at x (mapsBytes ms r) F)
-    (sym (drop-drop (length (x .pairs)) p es) ∙ ap (drop (length (x .pairs))) parts ∙ drop-at (entries at (x .pairs)) _ (length (x .pairs)) (length-entries at (x .pairs)))
+    (sym (drop-drop (length (x .pairs)) p es) ∙ ap (drop (length (x .pairs))) parts
+    ∙ drop-at (entries at (x .pairs)) _ (length (x .pairs)) (length-entries at (x .pairs)))
     some (G .1) k)
   where
     parts : drop p es ≡ entries at (x .pairs) ++ (mapsEntries (behindMap at x) ms ++ B)
@@ -147,7 +150,8 @@ held-here f es m (x ∷ ms) at p r B X F E l G h =
         sym (length-drop p es) ∙ ap length parts ∙ length-append (entries at (x .pairs)) (mapsEntries (behindMap at x) ms ++ B) in
         omega (arith, length-entries at (x .pairs))
 
-    by : (m : ℕ) → m < length (x ∷ ms) → ((n : ℕ) → n < length ms → heldBy f es (drop n (runs (p + length (x .pairs)) ms ++ X)) ≡ entriesBy (behindMap at x) n ms)
+    by : (m : ℕ) → m < length (x ∷ ms)
+        → ((n : ℕ) → n < length ms → heldBy f es (drop n (runs (p + length (x .pairs)) ms ++ X)) ≡ entriesBy (behindMap at x) n ms)
         → heldBy f es (drop m (runs p (x ∷ ms) ++ X)) ≡ entriesBy at m (x ∷ ms)
     by zero h k =
         let t : take (length (x .pairs)) (drop p es) ≡ entries at (x .pairs) =
@@ -179,8 +183,10 @@ good-maps ρ (m ∷ ms) ns h g = (good-map ρ m (h .0), good-maps ρ ms ns (h .1
 
 all-good : (c : Content) → FineFile c → All Good (mapsOf c)
 unfolding mapsOf
-all-good c h =
-    (good-map (two .global) (c .global) (h .global), good-maps (two .input) (c .ins) (c .outs) (h .ins) (subst (All Good) (append-nil (c .outs)) (good-maps (two .output) (c .outs) [] (h .outs) tt)))
+all-good c h = (
+  good-map (two .global) (c .global) (h .global),
+  good-maps (two .input) (c .ins) (c .outs) (h .ins) (subst (All Good) (append-nil (c .outs)) (good-maps (two .output) (c .outs) [] (h .outs) tt)),
+)
 
 view-here : (f : List ℕ) (m : ℕ) (ms : List Map) (at : ℕ) (r : List ℕ) → drop at f ≡ mapsBytes ms r → viewOf f (entriesBy at m ms) ≡ viewBy m ms
 unfolding viewOf entriesBy viewBy mapsBytes mapBytes
@@ -197,7 +203,8 @@ by-fit : (f : List ℕ) (es : List PairEntry) (rs : List MapEntry) → HeldFit f
 unfolding heldBy fitted
 by-fit f es [] = tt
 by-fit f es (r ∷ rs) =
-    pick-by (HeldFit f) (leb (r .first + r .count) (length es)) _ _ (λ q. pick-by (HeldFit f) (fit f [] (take (r .count) (drop (r .first) es))) _ _ (λ w. w) (λ w. tt)) (λ q. tt)
+    pick-by (HeldFit f) (leb (r .first + r .count) (length es)) _ _
+    (λ q. pick-by (HeldFit f) (fit f [] (take (r .count) (drop (r .first) es))) _ _ (λ w. w) (λ w. tt)) (λ q. tt)
 
 fit-shows : (f last : List ℕ) (es : List PairEntry) → fit f last es ≡ true → (every (inFile f) es ≡ true) × Rises last (map (shown f) es)
 unfolding fit every shown
@@ -207,7 +214,8 @@ fit-shows f last (e ∷ es) h =
     let i = fit-shows f (keyIn f e) es (and-right (inFile f e && below last (keyIn f e)) (fit f (keyIn f e) es) h) in
     (rw (and-left (inFile f e) (below last (keyIn f e)) a) (i .0), (below-is last (keyIn f e) (and-right (inFile f e) (below last (keyIn f e)) a), i .1))
 
-pub held-shows : (f P M : List ℕ) (s : Psbt) (m : ℕ) (es : List PairEntry) → held f P M s m ≡ holds es → (every (inFile f) es ≡ true) × Rises [] (map (shown f) es)
+pub held-shows : (f P M : List ℕ) (s : Psbt) (m : ℕ) (es : List PairEntry)
+    → held f P M s m ≡ holds es → (every (inFile f) es ≡ true) × Rises [] (map (shown f) es)
 unfolding held
 held-shows f P M s m es h =
     let w : HeldFit f (held f P M s m) = pick-by (HeldFit f) (ltb m (mapsReported s)) _ _ (λ q. by-fit f (pairEntries P) (drop m (mapEntries M))) (λ q. tt) in
@@ -232,7 +240,8 @@ module _ (f : List ℕ) (c : Content) (P M : List ℕ) (e : reading f ≡ accept
   view-is m = ap (viewOf f) (held-is m) ∙ view-here f m (mapsOf c) (length magic) [] (file-here f c (reading-is f c e .0))
 
   -- so every call that is defined on what maps show, or hold, answers from the tables as from the content
-  pub every-call : {A : Type 0} (call : (ℕ → View) → A) → call (λ m. view f (pairTable c P) (mapTable c M) (psbtOf (c .global .pairs)) m) ≡ call (λ m. viewBy m (mapsOf c))
+  pub every-call : {A : Type 0} (call : (ℕ → View) → A)
+      → call (λ m. view f (pairTable c P) (mapTable c M) (psbtOf (c .global .pairs)) m) ≡ call (λ m. viewBy m (mapsOf c))
   every-call call = ap call (fun-ext (λ m. view-is m))
 
   pub every-lookup : {A : Type 0} (call : (ℕ → Held) → A)
@@ -246,5 +255,6 @@ module _ (f : List ℕ) (c : Content) (P M : List ℕ) (e : reading f ≡ accept
   entries-show m es h = (held-shows f (pairTable c P) (mapTable c M) (psbtOf (c .global .pairs)) m es h .0, sym (view-is m) ∙ ap (viewOf f) h)
 
 -- whatever the room, so do the tables that an accepted parse leaves
-pub accepted-shows : (f P M : List ℕ) (s : Psbt) (p m : ℕ) (P′ M′ : List ℕ) (a : Accepts f P M s p m P′ M′) → (n : ℕ) → view f P′ M′ s n ≡ viewBy n (mapsOf (a .content))
+pub accepted-shows : (f P M : List ℕ) (s : Psbt) (p m : ℕ) (P′ M′ : List ℕ) (a : Accepts f P M s p m P′ M′)
+    → (n : ℕ) → view f P′ M′ s n ≡ viewBy n (mapsOf (a .content))
 accepted-shows f P M s p m P′ M′ a n = rw (a .reports, a .pairs-left, a .maps-left) (view-is f (a .content) P M (a .reads) n)

@@ -7,7 +7,8 @@ use borrow.Author.Tests.{lt-ltb}
 use lib.Dec.{leb, ltb}
 use lib.ListN.{length, drop}
 use Rattle.format.specs.Entries.{pairEntries, mapEntries}
-use Rattle.format.specs.Tables.{fit, Held, no, holds, fitted, heldBy, mapsReported, held, View, hides, shows, viewOf, view, Gathered, unfit, gathered, gatherBy, gather}
+use Rattle.format.specs.Tables.{fit, Held, no, holds, fitted, heldBy, mapsReported, held, View, hides}
+use Rattle.format.specs.Tables.{shows, viewOf, view, Gathered, unfit, gathered, gatherBy, gather}
 use Rattle.format.specs.Scripts.{Reported, unfitMap, reportedBy, reported, Given, setOut, setBy, setScripts}
 use Rattle.format.specs.Transaction.{txReported, txOut, written, unsignedTx, lockBy, lockDecided}
 use Rattle.format.specs.Told.{toldLock, toldLeft, toldSet, toldSetOut, toldTx, toldTxOut}
@@ -88,7 +89,8 @@ module _ (f P M : List ℕ) (s : Psbt) where
   no-is m e l q = held-bad f (pairEntries P) (drop m (mapEntries M)) e (sym (pick-yes (ltb m (mapsReported s)) _ _ (lt-ltb m (mapsReported s) l)) ∙ q)
 
   -- if not all maps that are reported are fit, the refusal is 24, and it is that of one of them
-  pub unfit-found : (e : PsbtError) → reported (view f P M s) s ≡ unfitMap e → (e ≡ BadIndex) × ((m : ℕ) × (m < mapsReported s) × (held f P M s m ≡ no BadIndex))
+  pub unfit-found : (e : PsbtError) → reported (view f P M s) s ≡ unfitMap e
+      → (e ≡ BadIndex) × ((m : ℕ) × (m < mapsReported s) × (held f P M s m ≡ no BadIndex))
   unfolding reported view
   unfit-found e q =
       let r = hidden-found (view f P M s) 0 (mapsReported s) e (reported-unfit (s .inputs) (gather (view f P M s) 0 (mapsReported s)) e q) in

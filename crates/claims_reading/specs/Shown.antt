@@ -22,19 +22,21 @@ viewBy m [] = hides OutOfRange
 viewBy zero (x ∷ ms) = shows (map bare (x .pairs))
 viewBy (suc m) (x ∷ ms) = viewBy m ms
 
--- the place behind pairs that begin at `at`, and behind a map
+-- the place behind pairs that begin at `at`
 unfoldable pub behind : ℕ → List Pair → ℕ
 behind at [] = at
 behind at (p ∷ ps) = behind (at + width p) ps
 
+-- the place behind a map that begins at `at`
 unfoldable pub behindMap : ℕ → Map → ℕ
 behindMap at m = behind at (m .pairs) + length (m .end)
 
--- the entries of pairs that begin at `at`, and of maps
+-- the entries of pairs that begin at `at`
 unfoldable pub entries : ℕ → List Pair → List PairEntry
 entries at [] = []
 entries at (p ∷ ps) = entryOf at p ∷ entries (at + width p) ps
 
+-- the entries of all pairs of maps that begin at `at`
 unfoldable pub mapsEntries : ℕ → List Map → List PairEntry
 mapsEntries at [] = []
 mapsEntries at (m ∷ ms) = entries at (m .pairs) ++ mapsEntries (behindMap at m) ms
@@ -64,10 +66,11 @@ joined w (x ∷ xs) = w x ++ joined w xs
 unfoldable pub onto : List ℕ → List ℕ → List ℕ
 onto t ws = ws ++ drop (length ws) t
 
--- the tables that an accepted file leaves
+-- the pair table that an accepted file leaves
 unfoldable pub pairTable : Content → List ℕ → List ℕ
 pairTable c P = onto P (joined pairEntryWords (mapsEntries (length magic) (mapsOf c)))
 
+-- the map table that it leaves
 unfoldable pub mapTable : Content → List ℕ → List ℕ
 mapTable c M = onto M (joined mapEntryWords (runs 0 (mapsOf c)))
 

@@ -16,7 +16,9 @@ pub fn get_sp_ecdh_share(
     psbt: Psbt,
     scan_key: &[u8],
 ) -> Looked
-    ensures { λ r. ⌜ toldLooked r ≡ toldLooked (globalShare (now (file .entry)) (now («scan_key» .entry)) (held (now (file .entry)) (now (pairs .entry)) (now (maps .entry)) psbt 0)) ⌝ }
+    ensures { λ r. ⌜ toldLooked r
+        ≡ toldLooked (globalShare (now (file .entry)) (now («scan_key» .entry))
+        (held (now (file .entry)) (now (pairs .entry)) (now (maps .entry)) psbt 0)) ⌝ }
 {
     payments::global::get_sp_ecdh_share(file, pairs, maps, psbt, scan_key)
 }
@@ -29,7 +31,9 @@ pub fn get_sp_dleq_proof(
     psbt: Psbt,
     scan_key: &[u8],
 ) -> Looked
-    ensures { λ r. ⌜ toldLooked r ≡ toldLooked (globalProof (now (file .entry)) (now («scan_key» .entry)) (held (now (file .entry)) (now (pairs .entry)) (now (maps .entry)) psbt 0)) ⌝ }
+    ensures { λ r. ⌜ toldLooked r
+        ≡ toldLooked (globalProof (now (file .entry)) (now («scan_key» .entry))
+        (held (now (file .entry)) (now (pairs .entry)) (now (maps .entry)) psbt 0)) ⌝ }
 {
     payments::global::get_sp_dleq_proof(file, pairs, maps, psbt, scan_key)
 }

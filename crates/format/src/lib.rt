@@ -6,13 +6,14 @@ ghost use Rattle.format.specs.Locks.{orZero};
 // The longest file that is read, in bytes.
 pub const LIMIT: usize = 1_048_576;
 
-// The kinds of map.
+// The kinds of map: the global one, an input's, an output's.
 pub const GLOBAL: u8 = 0;
 
 pub const INPUT: u8 = 1;
 
 pub const OUTPUT: u8 = 2;
 
+// The types of keys in the global map, under the Rust's names.
 pub const PSBT_GLOBAL_UNSIGNED_TX: u8 = 0x00;
 
 pub const PSBT_GLOBAL_XPUB: u8 = 0x01;
@@ -35,6 +36,7 @@ pub const PSBT_GLOBAL_VERSION: u8 = 0xfb;
 
 pub const PSBT_GLOBAL_PROPRIETARY: u8 = 0xfc;
 
+// The types of keys in an input's map.
 pub const PSBT_IN_NON_WITNESS_UTXO: u8 = 0x00;
 
 pub const PSBT_IN_WITNESS_UTXO: u8 = 0x01;
@@ -101,6 +103,7 @@ pub const PSBT_IN_SP_TWEAK: u8 = 0x20;
 
 pub const PSBT_IN_PROPRIETARY: u8 = 0xfc;
 
+// The types of keys in an output's map.
 pub const PSBT_OUT_REDEEM_SCRIPT: u8 = 0x00;
 
 pub const PSBT_OUT_WITNESS_SCRIPT: u8 = 0x01;

@@ -13,7 +13,8 @@ use Rattle.format.specs.Numbers.{le}
 use Rattle.format.specs.Compact.{size, countBy, count}
 use Rattle.format.specs.Keys.{typeOf, dataOf, keyOf, same, isSame}
 use Rattle.format.specs.Rules.{GLOBAL, INPUT, OUTPUT, valueFits, isRow, rowRule, sizesIn, sizes, countRule, bareRule, andThen, rule}
-use Rattle.format.specs.Content.{Pair, Found, absent, found, find, field, present, number, maybe, sizeValue, counted, psbtOf, globalRule, modifiable, outputRule}
+use Rattle.format.specs.Content.{Pair, Found, absent, found, find, field, present, number, maybe, sizeValue}
+use Rattle.format.specs.Content.{counted, psbtOf, globalRule, modifiable, outputRule}
 use Rattle.format.specs.Locks.{orZero}
 use Rattle.format.specs.declared.PsbtError.the-variants.{BadValue}
 use Rattle.format.specs.declared.Size.{Size}
@@ -28,10 +29,12 @@ use Rattle.claims_reading.specs.Fine.{Rises, Keeps}
 use Rattle.claims_reading.proofs.Rises.{rises-from}
 use Rattle.wire.specs.Leads.{lead}
 use Rattle.wire.proofs.Bounds.{count-read}
-use Rattle.known_so_far.specs.Walks.{notedBy, asNumber, asCount, asThere, noted, notedCount, notedThere, noteGlobal, noteOutput, withGlobals, withSeen, note, noGlobals, unseen, there, allThere, versionRule, globalsRule, psbtFrom, flags, seenRule}
+use Rattle.known_so_far.specs.SoFar.{notedBy, asNumber, asCount, asThere, noted, notedCount, notedThere, noteGlobal}
+use Rattle.known_so_far.specs.SoFar.{noteOutput, withGlobals, withSeen, note, noGlobals, unseen, there, allThere}
+use Rattle.known_so_far.specs.SoFar.{versionRule, globalsRule, psbtFrom, flags, seenRule}
 use Rattle.known_so_far.specs.declared.Globals.{Globals}
 use Rattle.known_so_far.specs.declared.Seen.{Seen}
-use Rattle.known_so_far.specs.declared.Walk.{Walk}
+use Rattle.known_so_far.specs.declared.Known.{Known}
 
 -- a field noted along pairs
 unfoldable pub alongBy : {A : Type 0} → (List ℕ → A) → ℕ → List Pair → A → A
@@ -49,14 +52,16 @@ unfolding find same isSame
 absent-behind last [] h = refl
 absent-behind last (p ∷ ps) h = rw (h .0) (absent-behind last ps (rises-from last (p .key) ps (h .0) (h .1)))
 
-along-is : {A : Type 0} (read : List ℕ → A) (t : ℕ) (last : List ℕ) (ps : List Pair) (old : A) → Rises last ps → alongBy read t ps old ≡ orOld read (field t ps) old
+along-is : {A : Type 0} (read : List ℕ → A) (t : ℕ) (last : List ℕ) (ps : List Pair) (old : A)
+    → Rises last ps → alongBy read t ps old ≡ orOld read (field t ps) old
 unfolding alongBy notedBy orOld field find
 along-is read t last [] old h = refl
 along-is {A} read t last (p ∷ ps) old h = by (same (keyOf t []) (p .key)) refl (λ (x : A). along-is read t (p .key) ps x (h .1))
   where
     by : (b : Bool) → same (keyOf t []) (p .key) ≡ b → ((x : A) → alongBy read t ps x ≡ orOld read (find (keyOf t []) ps) x)
         → alongBy read t ps (pick b (read (p .value)) old) ≡ orOld read (pick b (found (p .value)) (find (keyOf t []) ps)) old
-    by true q i = i (read (p .value)) ∙ ap (λ (f : Found). orOld read f (read (p .value))) (ap (λ (k : List ℕ). find k ps) (same-is (keyOf t []) (p .key) q) ∙ absent-behind (p .key) ps (h .1))
+    by true q i = i (read (p .value)) ∙ ap (λ (f : Found). orOld read f (read (p .value)))
+        (ap (λ (k : List ℕ). find k ps) (same-is (keyOf t []) (p .key) q) ∙ absent-behind (p .key) ps (h .1))
     by false q i = i old
 
 -- a value that is found keeps the field rule
@@ -65,7 +70,8 @@ unfolding find
 found-keeps k key [] v a e = let z : _≡_ {A = ℕ} 0 1 = cc in absurd (omega arith)
 found-keeps k key (p ∷ ps) v a e = by (same key (p .key)) refl (found-keeps k key ps v (a .1)) e
   where
-    by : (b : Bool) → same key (p .key) ≡ b → (find key ps ≡ found v → rule k key v ≡ Passed) → pick b (found (p .value)) (find key ps) ≡ found v → rule k key v ≡ Passed
+    by : (b : Bool) → same key (p .key) ≡ b → (find key ps ≡ found v → rule k key v ≡ Passed)
+        → pick b (found (p .value)) (find key ps) ≡ found v → rule k key v ≡ Passed
     by true q i e =
         let w : p .value ≡ v = cc in
         subst (λ (x : List ℕ). rule k key x ≡ Passed) w (subst (λ (x : List ℕ). rule k x (p .value) ≡ Passed) (sym (same-is key (p .key) q)) (a .0))
@@ -79,10 +85,12 @@ both-passed (Refused e) y h = let z : _≡_ {A = ℕ} 0 1 = cc in absurd (omega 
 
 size-passed : (n m : ℕ) → pick (eqb n m) Passed (Refused BadValue) ≡ Passed → n ≡ m
 size-passed n m =
-    pick-by (λ (y : Ruled). y ≡ Passed → n ≡ m) (eqb n m) _ _ (λ q h. eqb-true n m q) (λ q (h : Refused BadValue ≡ Passed). let z : _≡_ {A = ℕ} 0 1 = cc in absurd (omega arith))
+    pick-by (λ (y : Ruled). y ≡ Passed → n ≡ m) (eqb n m) _ _
+    (λ q h. eqb-true n m q) (λ q (h : Refused BadValue ≡ Passed). let z : _≡_ {A = ℕ} 0 1 = cc in absurd (omega arith))
 
 -- a global field whose row asks m bytes has m
-global-sized : (t m : ℕ) (v : List ℕ) → ((n : ℕ) → sizes GLOBAL t 0 n ≡ pick (eqb n m) Passed (Refused BadValue)) → rule GLOBAL (keyOf t []) v ≡ Passed → length v ≡ m
+global-sized : (t m : ℕ) (v : List ℕ) → ((n : ℕ) → sizes GLOBAL t 0 n ≡ pick (eqb n m) Passed (Refused BadValue))
+    → rule GLOBAL (keyOf t []) v ≡ Passed → length v ≡ m
 unfolding rule keyOf typeOf dataOf
 global-sized t m v is h = size-passed (length v) m (sym (is (length v)) ∙ both-passed _ _ h .0)
 
@@ -94,7 +102,8 @@ counted-is v (Bad e) q h = let z : _≡_ {A = ℕ} 0 1 = cc in absurd (omega ari
 
 -- what noting gives from nothing on, by what is found
 module _ (ps : List Pair) (h : Rises [] ps) (a : All (Keeps (rule GLOBAL)) ps) where
-  number-along : (t m : ℕ) → m ≤ 4 → ((n : ℕ) → sizes GLOBAL t 0 n ≡ pick (eqb n m) Passed (Refused BadValue)) → alongBy asNumber t ps Absent ≡ maybe (field t ps)
+  number-along : (t m : ℕ) → m ≤ 4 → ((n : ℕ) → sizes GLOBAL t 0 n ≡ pick (eqb n m) Passed (Refused BadValue))
+      → alongBy asNumber t ps Absent ≡ maybe (field t ps)
   unfolding orOld maybe asNumber lead field
   number-along t m l is = along-is asNumber t [] ps Absent h ∙ by (field t ps) refl
     where
@@ -121,7 +130,7 @@ there-along t ps h = along-is asThere t [] ps false h ∙ by (field t ps)
     by (found v) = refl
 
 -- the pairs of a map noted one after the other
-unfoldable pub noteAll : Walk → List Pair → Walk
+unfoldable pub noteAll : Known → List Pair → Known
 noteAll w [] = w
 noteAll w (p ∷ ps) = noteAll (note (p .key) (p .value) w) ps
 
@@ -146,20 +155,20 @@ seenAlong ps o = record {
   label = alongBy asThere 0x0a ps (o .label);
 }
 
-pub note-global : (w : Walk) (key v : List ℕ) → w .kind ≡ GLOBAL → note key v w ≡ withGlobals w (noteGlobal key v (w .globals))
+pub note-global : (w : Known) (key v : List ℕ) → w .kind ≡ GLOBAL → note key v w ≡ withGlobals w (noteGlobal key v (w .globals))
 unfolding note
 note-global w key v k = rw k
 
-pub note-output : (w : Walk) (key v : List ℕ) → w .kind ≡ OUTPUT → note key v w ≡ withSeen w (noteOutput key v (w .seen))
+pub note-output : (w : Known) (key v : List ℕ) → w .kind ≡ OUTPUT → note key v w ≡ withSeen w (noteOutput key v (w .seen))
 unfolding note
 note-output w key v k = rw k
 
-global-all : (w : Walk) (ps : List Pair) → w .kind ≡ GLOBAL → noteAll w ps ≡ withGlobals w (globalsAlong ps (w .globals))
+global-all : (w : Known) (ps : List Pair) → w .kind ≡ GLOBAL → noteAll w ps ≡ withGlobals w (globalsAlong ps (w .globals))
 unfolding noteAll withGlobals globalsAlong alongBy noteGlobal noted notedCount notedThere
 global-all w [] k = refl
 global-all w (p ∷ ps) k = rw (note-global w (p .key) (p .value) k) (global-all (withGlobals w (noteGlobal (p .key) (p .value) (w .globals))) ps k)
 
-output-all : (w : Walk) (ps : List Pair) → w .kind ≡ OUTPUT → noteAll w ps ≡ withSeen w (seenAlong ps (w .seen))
+output-all : (w : Known) (ps : List Pair) → w .kind ≡ OUTPUT → noteAll w ps ≡ withSeen w (seenAlong ps (w .seen))
 unfolding noteAll withSeen seenAlong alongBy noteOutput notedThere
 output-all w [] k = refl
 output-all w (p ∷ ps) k = rw (note-output w (p .key) (p .value) k) (output-all (withSeen w (noteOutput (p .key) (p .value) (w .seen))) ps k)
@@ -177,7 +186,8 @@ foundGlobals ps = record {
   «has_outputs» = present (field 0x05 ps);
 }
 
-pub global-noted : (w : Walk) (ps : List Pair) → w .kind ≡ GLOBAL → w .globals ≡ noGlobals → Rises [] ps → All (Keeps (rule GLOBAL)) ps → noteAll w ps ≡ withGlobals w (foundGlobals ps)
+pub global-noted : (w : Known) (ps : List Pair) → w .kind ≡ GLOBAL
+    → w .globals ≡ noGlobals → Rises [] ps → All (Keeps (rule GLOBAL)) ps → noteAll w ps ≡ withGlobals w (foundGlobals ps)
 unfolding globalsAlong foundGlobals sizes sizesIn isRow rowRule valueFits rule bareRule keyOf typeOf dataOf andThen
 global-noted w ps k g h a =
     global-all w ps k ∙ rw (
@@ -196,16 +206,16 @@ global-noted w ps k g h a =
 unfoldable pub foundSeen : List Pair → Seen
 foundSeen ps = record { script = present (field 0x04 ps); code = present (field 0x09 ps); label = present (field 0x0a ps) }
 
-pub output-noted : (w : Walk) (ps : List Pair) → w .kind ≡ OUTPUT → w .seen ≡ unseen → Rises [] ps → noteAll w ps ≡ withSeen w (foundSeen ps)
+pub output-noted : (w : Known) (ps : List Pair) → w .kind ≡ OUTPUT → w .seen ≡ unseen → Rises [] ps → noteAll w ps ≡ withSeen w (foundSeen ps)
 unfolding seenAlong foundSeen
 output-noted w ps k o h = output-all w ps k ∙ rw (o, there-along 0x04 ps h, there-along 0x09 ps h, there-along 0x0a ps h)
 
 -- an input's pairs are not noted
-note-input : (w : Walk) (key v : List ℕ) → w .kind ≡ INPUT → note key v w ≡ w
+note-input : (w : Known) (key v : List ℕ) → w .kind ≡ INPUT → note key v w ≡ w
 unfolding note
 note-input w key v k = rw (ne-eqb (w .kind) GLOBAL (λ e. omega arith), ne-eqb (w .kind) OUTPUT (λ e. omega arith))
 
-pub input-noted : (w : Walk) (ps : List Pair) → w .kind ≡ INPUT → noteAll w ps ≡ w
+pub input-noted : (w : Known) (ps : List Pair) → w .kind ≡ INPUT → noteAll w ps ≡ w
 unfolding noteAll
 input-noted w [] k = refl
 input-noted w (p ∷ ps) k = rw (note-input w (p .key) (p .value) k) (input-noted w ps k)

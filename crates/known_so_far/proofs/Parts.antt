@@ -26,11 +26,12 @@ use Rattle.format.proofs.Tests.{pick-by}
 use Rattle.keys.proofs.Bare.{bare-not}
 use Rattle.wire.specs.Leads.{lead}
 use Rattle.format.specs.Locks.{orZero}
-use Rattle.known_so_far.specs.Walks.{notedBy, asNumber, asCount, asThere, noted, notedCount, notedThere, noteGlobal, noteOutput, withGlobals, withSeen, note, there, allThere, versionRule, globalsRule, psbtFrom, flags}
+use Rattle.known_so_far.specs.SoFar.{notedBy, asNumber, asCount, asThere, noted, notedCount, notedThere, noteGlobal, noteOutput}
+use Rattle.known_so_far.specs.SoFar.{withGlobals, withSeen, note, there, allThere, versionRule, globalsRule, psbtFrom, flags}
 use Rattle.known_so_far.proofs.Notes.{note-global, note-output}
 use Rattle.known_so_far.specs.declared.Globals.{Globals}
 use Rattle.known_so_far.specs.declared.Seen.{Seen}
-use Rattle.known_so_far.specs.declared.Walk.{Walk}
+use Rattle.known_so_far.specs.declared.Known.{Known}
 
 -- the value of a compact size
 pub size-bad : (x : Size) (e : PsbtError) → x ≡ Z.Bad e → 0 ≡ sizeValue x
@@ -69,9 +70,9 @@ module _ (t : ℕ) (key v : List ℕ) (b : Bool) (is : b ≡ same (keyOf t []) k
   unfolding notedCount
   count-no old h = by-no asCount old h
 
-  pub there-yes : (old : Bool) → b ≡ true → true ≡ notedThere t key v old
+  pub there-yes : (old : Bool) → b ≡ true → b ≡ notedThere t key v old
   unfolding notedThere asThere
-  there-yes old h = by-yes asThere old h
+  there-yes old h = h ∙ by-yes asThere old h
 
   pub there-no : (old : Bool) → b ≡ false → old ≡ notedThere t key v old
   unfolding notedThere
@@ -96,18 +97,37 @@ pub note-fields : (g : Globals) (key v : List ℕ) (a b : Maybe) (c d : ℕ) (e 
     → a ≡ noted 0x02 key v (g .«tx_version») → b ≡ noted 0x03 key v (g .«fallback_locktime») → c ≡ notedCount 0x04 key v (g .«n_inputs»)
     → d ≡ notedCount 0x05 key v (g .«n_outputs») → e ≡ noted 0x06 key v (g .«tx_modifiable») → f ≡ noted 0xfb key v (g .«psbt_version»)
     → x ≡ notedThere 0x04 key [] (g .«has_inputs») → y ≡ notedThere 0x05 key [] (g .«has_outputs»)
-    → record { «tx_version» = a; «fallback_locktime» = b; «n_inputs» = c; «n_outputs» = d; «tx_modifiable» = e; «psbt_version» = f; «has_inputs» = x; «has_outputs» = y } ≡ noteGlobal key v g
+    → record {
+      «tx_version» = a;
+      «fallback_locktime» = b;
+      «n_inputs» = c;
+      «n_outputs» = d;
+      «tx_modifiable» = e;
+      «psbt_version» = f;
+      «has_inputs» = x;
+      «has_outputs» = y;
+    } ≡ noteGlobal key v g
 unfolding noteGlobal notedThere notedBy asThere
 note-fields g key v a b c d e f x y p q r s t u m n =
-    λ i. record { «tx_version» = p i; «fallback_locktime» = q i; «n_inputs» = r i; «n_outputs» = s i; «tx_modifiable» = t i; «psbt_version» = u i; «has_inputs» = m i; «has_outputs» = n i }
+    λ i. record {
+      «tx_version» = p i;
+      «fallback_locktime» = q i;
+      «n_inputs» = r i;
+      «n_outputs» = s i;
+      «tx_modifiable» = t i;
+      «psbt_version» = u i;
+      «has_inputs» = m i;
+      «has_outputs» = n i;
+    }
 
-pub note-seen : (o : Seen) (key v : List ℕ) (a b c : Bool) → a ≡ notedThere 0x04 key v (o .script) → b ≡ notedThere 0x09 key v (o .code) → c ≡ notedThere 0x0a key v (o .label)
+pub note-seen : (o : Seen) (key v : List ℕ) (a b c : Bool)
+    → a ≡ notedThere 0x04 key v (o .script) → b ≡ notedThere 0x09 key v (o .code) → c ≡ notedThere 0x0a key v (o .label)
     → record { script = a; code = b; label = c } ≡ noteOutput key v o
 unfolding noteOutput
 note-seen o key v a b c p q r = λ i. record { script = p i; code = q i; label = r i }
 
 -- what is carried on after a pair
-module _ (w : Walk) (key v : List ℕ) where
+module _ (w : Known) (key v : List ℕ) where
   wide-no : (t : ℕ) → (length key ≡ 1 → ⊥) → same (keyOf t []) key ≡ false
   wide-no t h = sym (bare-not key t h)
 
@@ -115,7 +135,8 @@ module _ (w : Walk) (key v : List ℕ) where
   unfolding note withGlobals withSeen noteGlobal noteOutput noted notedCount notedThere notedBy
   note-wide h =
       sym (rw (wide-no 0x02 h, wide-no 0x03 h, wide-no 0x04 h, wide-no 0x05 h, wide-no 0x06 h, wide-no 0xfb h, wide-no 0x09 h, wide-no 0x0a h)
-      (pick-by (λ (x : Walk). x ≡ w) (eqb (w .kind) GLOBAL) _ _ (λ q. refl) (λ q. pick-by (λ (x : Walk). x ≡ w) (eqb (w .kind) OUTPUT) _ _ (λ t. refl) (λ t. refl))))
+      (pick-by (λ (x : Known). x ≡ w) (eqb (w .kind) GLOBAL) _ _
+      (λ q. refl) (λ q. pick-by (λ (x : Known). x ≡ w) (eqb (w .kind) OUTPUT) _ _ (λ t. refl) (λ t. refl))))
 
   pub note-g : (g : Globals) → w .kind ≡ GLOBAL → g ≡ noteGlobal key v (w .globals)
       → record { kind = w .kind; globals = g; inputs = w .inputs; outputs = w .outputs; seen = w .seen; ruled = w .ruled } ≡ note key v w
@@ -134,10 +155,26 @@ module _ (w : Walk) (key v : List ℕ) where
 pub ruleset pairNotes = (note-wide, note-g, note-o, note-i)
 
 -- all that has to be in the global map
-pub all-there : (g : Globals) (a d x y z : Bool) → a ≡ there (g .«tx_version») → d ≡ there (g .«psbt_version»)
-    → x ≡ (g .«has_outputs» && d) → y ≡ (g .«has_inputs» && x) → z ≡ (a && y) → z ≡ allThere g
-unfolding allThere
-all-there g a d x y z p q t u v = v ∙ rw (u, t, p, q)
+module _ (g : Globals) (a d : Bool) (p : a ≡ there (g .«tx_version»)) (q : d ≡ there (g .«psbt_version»)) where
+  pub no-version : a ≡ false → a ≡ allThere g
+  unfolding allThere
+  no-version h = h ∙ sym (rw (sym p ∙ h))
+
+  module _ (h : a ≡ true) where
+    pub no-inputs : g .«has_inputs» ≡ false → g .«has_inputs» ≡ allThere g
+    unfolding allThere
+    no-inputs k = k ∙ sym (rw (sym p ∙ h, k))
+
+    module _ (k : g .«has_inputs» ≡ true) where
+      pub no-outputs : g .«has_outputs» ≡ false → g .«has_outputs» ≡ allThere g
+      unfolding allThere
+      no-outputs l = l ∙ sym (rw (sym p ∙ h, k, l))
+
+      pub counts-there : g .«has_outputs» ≡ true → d ≡ allThere g
+      unfolding allThere
+      counts-there l = q ∙ sym (rw (sym p ∙ h, k, l))
+
+pub ruleset allTheres = (no-version, no-inputs, no-outputs, counts-there)
 
 module _ (m : Maybe) (n : ℕ) (e : n ≡ orZero m) where
   pub version-two : n ≡ 2 → Passed ≡ versionRule m
@@ -194,9 +231,21 @@ pub ruleset outputs = (out-none, out-code, out-script, out-label, out-flags, out
 
 -- what is reported
 pub report : (g : Globals) (n : ℕ) (z : ℤ) → n ≡ orZero (g .«tx_version») → z ≡ signed n
-    → record { «tx_version» = z; «fallback_locktime» = g .«fallback_locktime»; «tx_modifiable» = g .«tx_modifiable»; inputs = g .«n_inputs»; outputs = g .«n_outputs» } ≡ psbtFrom g
+    → record {
+      «tx_version» = z;
+      «fallback_locktime» = g .«fallback_locktime»;
+      «tx_modifiable» = g .«tx_modifiable»;
+      inputs = g .«n_inputs»;
+      outputs = g .«n_outputs»;
+    } ≡ psbtFrom g
 unfolding psbtFrom
-report g n z p q = λ j. record { «tx_version» = (q ∙ ap signed p) j; «fallback_locktime» = g .«fallback_locktime»; «tx_modifiable» = g .«tx_modifiable»; inputs = g .«n_inputs»; outputs = g .«n_outputs» }
+report g n z p q = λ j. record {
+  «tx_version» = (q ∙ ap signed p) j;
+  «fallback_locktime» = g .«fallback_locktime»;
+  «tx_modifiable» = g .«tx_modifiable»;
+  inputs = g .«n_inputs»;
+  outputs = g .«n_outputs»;
+}
 
 -- the two low flags
 pub low-flags : (m : Maybe) (n : ℕ) → n ≡ orZero m → not (eqb (bitAnd n 3) 0) ≡ flags m

@@ -1,4 +1,4 @@
-// What is carried along a file, pair by pair and map by map, and what the rules say of it: no table is needed for the verdict.
+// What is known of a file so far, pair by pair and map by map, and what the rules say of it: no table is needed for the verdict.
 use format::GLOBAL;
 use format::INPUT;
 use format::Maybe;
@@ -17,15 +17,15 @@ use format::PsbtError;
 use format::Ruled;
 use format::Size;
 use keys::is_bare;
+use wire::signed;
 use wire::u32_from_le_bytes;
 use wire::u64_from_compact_size;
 ghost use mathlib.Core.Path.{_≡_};
-ghost use mathlib.Core.Bool.{_&&_};
 ghost use mathlib.Core.List.{[]};
-ghost use Rattle.format.specs.Numbers.{signed};
 ghost use Rattle.format.specs.Content.{sizeValue, outputBy};
 ghost use Rattle.format.specs.Rules.{andThen};
-ghost use Rattle.known_so_far.specs.Walks.{noted, notedCount, notedThere, noteGlobal, noteOutput, note, globalsRule, allThere, versionRule, psbtFrom, flags, closeGlobal, closeOutput, close, finish, start, after, there, atFirst};
+ghost use Rattle.known_so_far.specs.SoFar.{noted, notedCount, notedThere, noteGlobal, noteOutput, note, globalsRule, allThere, versionRule};
+ghost use Rattle.known_so_far.specs.SoFar.{psbtFrom, flags, closeGlobal, closeOutput, close, finish, start, after, there, atFirst};
 
 // What is known of the global map: its fields without key data. An absent count is 0 and has its flag unset; the flags
 // stand behind the wider fields.
@@ -47,10 +47,17 @@ pub struct Seen {
     pub label: bool,
 }
 
-// What is carried along a file: the global fields, how many inputs and outputs are still to come, what the output that
+// An output of which nothing is read yet.
+const UNSEEN: Seen = Seen {
+    script: false,
+    code: false,
+    label: false,
+};
+
+// What is known of a file so far: the global fields, how many inputs and outputs are still to come, what the output that
 // is read has, what the rules say of the outputs so far, and the kind of the map that is read (last, where it leaves
 // no gap before the wider fields: copying one costs time at each pair).
-pub struct Walk {
+pub struct Known {
     pub globals: Globals,
     pub inputs: u64,
     pub outputs: u64,
@@ -59,17 +66,17 @@ pub struct Walk {
     pub kind: u8,
 }
 
-// What is carried on where a map ended, or the refusal.
+// What is known where a map ended, or the refusal.
 pub enum Closed {
     Bad(PsbtError),
-    Good(Walk),
+    Good(Known),
 }
 
-// What follows a map: a refusal, the end of the file, or another map.
+// What follows a map: a refusal, the end of the file, or another map with what is known before it.
 pub enum Next {
     Stop(PsbtError),
     Done(Psbt),
-    Map(Walk),
+    Map(Known),
 }
 
 // The value of a compact size, 0 where it could not be read.
@@ -108,7 +115,7 @@ fn noted_count(key_type: u8, key: &[u8], value: &[u8], old: u64) -> u64
 fn noted_there(key_type: u8, key: &[u8], old: bool) -> bool
     ensures { λ r. ⌜ r ≡ notedThere «key_type» (now (key .entry)) [] old ⌝ }
 {
-    if is_bare(key, key_type) { true } else { old }
+    is_bare(key, key_type) || old
 }
 
 // The global fields after a pair of the global map.
@@ -148,39 +155,31 @@ fn note_output(seen: Seen, key: &[u8]) -> Seen
     }
 }
 
-// What is carried on after a pair.
-pub fn note_pair(w: Walk, key: &[u8], value: &[u8]) -> Walk
-    ensures { λ r. ⌜ r ≡ note (now (key .entry)) (now (value .entry)) w ⌝ }
+// What is known after a pair.
+pub fn note_pair(known: Known, key: &[u8], value: &[u8]) -> Known
+    ensures { λ r. ⌜ r ≡ note (now (key .entry)) (now (value .entry)) known ⌝ }
 {
     if key.len() != 1 {
-        return w;
+        return known;
     }
-    let globals = w.globals;
-    let seen = w.seen;
-    let ruled = w.ruled;
-    if w.kind == GLOBAL {
-        return Walk {
-            kind: w.kind,
+    let globals = known.globals;
+    let seen = known.seen;
+    if known.kind == GLOBAL {
+        return Known {
             globals: note_global(globals, key, value),
-            inputs: w.inputs,
-            outputs: w.outputs,
-            seen,
-            ruled,
+            ..known
         };
     }
-    if w.kind == OUTPUT {
-        return Walk {
-            kind: w.kind,
-            globals,
-            inputs: w.inputs,
-            outputs: w.outputs,
+    if known.kind == OUTPUT {
+        return Known {
             seen: note_output(seen, key),
-            ruled,
+            ..known
         };
     }
-    w
+    known
 }
 
+// A field that may be absent is there.
 fn is_there(m: Maybe) -> bool
     ensures { λ r. ⌜ r ≡ there m ⌝ }
 {
@@ -190,23 +189,18 @@ fn is_there(m: Maybe) -> bool
     }
 }
 
-fn both(a: bool, b: bool) -> bool
-    ensures { λ r. ⌜ r ≡ (a && b) ⌝ }
-{
-    if a { b } else { false }
-}
-
 // All that has to be in the global map is there.
 fn has_counts(g: Globals) -> bool
     ensures { λ r. ⌜ r ≡ allThere g ⌝ }
 {
     let tx_version = g.tx_version;
     let psbt_version = g.psbt_version;
-    let last = both(g.has_outputs, is_there(psbt_version));
-    let more = both(g.has_inputs, last);
-    both(is_there(tx_version), more)
+    let has_tx_version = is_there(tx_version);
+    let has_psbt_version = is_there(psbt_version);
+    has_tx_version && (g.has_inputs && (g.has_outputs && has_psbt_version))
 }
 
+// The version is 2.
 fn check_version(psbt_version: Maybe) -> Ruled
     ensures { λ r. ⌜ r ≡ versionRule «psbt_version» ⌝ }
 {
@@ -226,17 +220,6 @@ fn check_globals(g: Globals) -> Ruled
         check_version(psbt_version)
     } else {
         Ruled::Refused(PsbtError::MissingCounts)
-    }
-}
-
-// 32 bits read as a signed number.
-pub fn signed(x: u32) -> i32
-    ensures { λ r. ⌜ r ≡ signed x ⌝ }
-{
-    if x < 0x8000_0000 {
-        x as i32
-    } else {
-        (x - 0x8000_0000) as i32 + (-2147483647 - 1)
     }
 }
 
@@ -287,6 +270,7 @@ fn validate_silent_payment_output(tx_modifiable: Maybe, seen: Seen) -> Ruled
     Ruled::Refused(PsbtError::MissingOutputScript)
 }
 
+// One rule and then another: the first refusal.
 fn and_then(a: Ruled, b: Ruled) -> Ruled
     ensures { λ r. ⌜ r ≡ andThen a b ⌝ }
 {
@@ -297,62 +281,53 @@ fn and_then(a: Ruled, b: Ruled) -> Ruled
 }
 
 // Where the global map ended: its rule, and then how many inputs and outputs follow.
-fn close_global(w: Walk) -> Closed
-    ensures { λ r. ⌜ r ≡ closeGlobal w (globalsRule (w .globals)) ⌝ }
+fn close_global(known: Known) -> Closed
+    ensures { λ r. ⌜ r ≡ closeGlobal known (globalsRule (known .globals)) ⌝ }
 {
-    let globals = w.globals;
-    let seen = w.seen;
-    let ruled = w.ruled;
+    let globals = known.globals;
     match check_globals(globals) {
         Ruled::Refused(e) => Closed::Bad(e),
-        Ruled::Passed => Closed::Good(Walk {
-            kind: w.kind,
-            globals,
+        Ruled::Passed => Closed::Good(Known {
             inputs: globals.n_inputs,
             outputs: globals.n_outputs,
-            seen,
-            ruled,
+            ..known
         }),
     }
 }
 
 // Where an output ended: the first breach of the output rules is kept.
-fn close_output(w: Walk) -> Walk
-    ensures { λ r. ⌜ r ≡ closeOutput w ⌝ }
+fn close_output(known: Known) -> Known
+    ensures { λ r. ⌜ r ≡ closeOutput known ⌝ }
 {
-    let globals = w.globals;
-    let seen = w.seen;
-    let ruled = w.ruled;
+    let globals = known.globals;
+    let seen = known.seen;
+    let ruled = known.ruled;
     let tx_modifiable = globals.tx_modifiable;
-    Walk {
-        kind: w.kind,
-        globals,
-        inputs: w.inputs,
-        outputs: w.outputs,
-        seen,
+    Known {
         ruled: and_then(ruled, validate_silent_payment_output(tx_modifiable, seen)),
+        ..known
     }
 }
 
 // Where the map that is read ended.
-fn close_map(w: Walk) -> Closed
-    ensures { λ r. ⌜ r ≡ close w ⌝ }
+fn close_map(known: Known) -> Closed
+    ensures { λ r. ⌜ r ≡ close known ⌝ }
 {
-    if w.kind == GLOBAL {
-        return close_global(w);
+    if known.kind == GLOBAL {
+        return close_global(known);
     }
-    if w.kind == OUTPUT {
-        return Closed::Good(close_output(w));
+    if known.kind == OUTPUT {
+        return Closed::Good(close_output(known));
     }
-    Closed::Good(w)
+    Closed::Good(known)
 }
 
 // After all maps: nothing is left over, and then the output rules.
-fn finish(w: Walk, left: bool) -> Next
-    ensures { λ r. ⌜ r ≡ finish w left ⌝ }
+fn finish(known: Known, left: bool) -> Next
+    ensures { λ r. ⌜ r ≡ finish known left ⌝ }
 {
-    let globals = w.globals;
-    let ruled = w.ruled;
+    let globals = known.globals;
+    let ruled = known.ruled;
     if left {
         return Next::Stop(PsbtError::UnexpectedEof);
     }
@@ -363,54 +338,42 @@ fn finish(w: Walk, left: bool) -> Next
 }
 
 // The next map: an input, an output, or none.
-fn start_map(w: Walk, left: bool) -> Next
-    ensures { λ r. ⌜ r ≡ start w left ⌝ }
+fn start_map(known: Known, left: bool) -> Next
+    ensures { λ r. ⌜ r ≡ start known left ⌝ }
 {
-    let globals = w.globals;
-    let seen = w.seen;
-    let ruled = w.ruled;
-    if 0 < w.inputs {
-        return Next::Map(Walk {
+    if 0 < known.inputs {
+        return Next::Map(Known {
             kind: INPUT,
-            globals,
-            inputs: w.inputs - 1,
-            outputs: w.outputs,
-            seen,
-            ruled,
+            inputs: known.inputs - 1,
+            ..known
         });
     }
-    if 0 < w.outputs {
-        return Next::Map(Walk {
+    if 0 < known.outputs {
+        return Next::Map(Known {
             kind: OUTPUT,
-            globals,
-            inputs: w.inputs,
-            outputs: w.outputs - 1,
-            seen: Seen {
-                script: false,
-                code: false,
-                label: false,
-            },
-            ruled,
+            outputs: known.outputs - 1,
+            seen: UNSEEN,
+            ..known
         });
     }
-    finish(w, left)
+    finish(known, left)
 }
 
 // What follows the map that is read.
-pub fn after_map(w: Walk, left: bool) -> Next
-    ensures { λ r. ⌜ r ≡ after w left ⌝ }
+pub fn after_map(known: Known, left: bool) -> Next
+    ensures { λ r. ⌜ r ≡ after known left ⌝ }
 {
-    match close_map(w) {
+    match close_map(known) {
         Closed::Bad(e) => Next::Stop(e),
-        Closed::Good(v) => start_map(v, left),
+        Closed::Good(now_known) => start_map(now_known, left),
     }
 }
 
 // What is known before the first map.
-pub fn first_map() -> Walk
+pub fn first_map() -> Known
     ensures { λ r. ⌜ r ≡ atFirst ⌝ }
 {
-    Walk {
+    Known {
         kind: GLOBAL,
         globals: Globals {
             tx_version: Maybe::Absent,
@@ -424,11 +387,7 @@ pub fn first_map() -> Walk
         },
         inputs: 0,
         outputs: 0,
-        seen: Seen {
-            script: false,
-            code: false,
-            label: false,
-        },
+        seen: UNSEEN,
         ruled: Ruled::Passed,
     }
 }

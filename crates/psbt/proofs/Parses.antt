@@ -78,7 +78,8 @@ module _ (F P M : List ℕ) where
     pub maps-told : not b ≡ false → (r : Parsed) (P′ M′ : List ℕ) → out r P′ M′ ≡ mapsRead F P M → toldWith (toldParsed r) P′ M′ ≡ toldParse (parsed F P M)
     unfolding parsed events eventsOf mapsRead lean
     maps-told h r P′ M′ q =
-        tell r P′ M′ _ (q ∙ sym (rw (le-leb (length F) limit l, sym e ∙ not-false b h) (cut-lean 5 0 0 0 P M _ ∙ ap (λ x. cutLean 5 0 0 0 P M (begins x)) (maps-walked (drop 5 F)))))
+        tell r P′ M′ _ (q ∙ sym (rw (le-leb (length F) limit l, sym e ∙ not-false b h)
+        (cut-lean 5 0 0 0 P M _ ∙ ap (λ x. cutLean 5 0 0 0 P M (begins x)) (maps-walked (drop 5 F)))))
 
 pub ruleset parses = (too-long, no-magic, in-limit, maps-told)
 
