@@ -98,7 +98,7 @@ unfolding reading readingOf events
 reading-of c h = readings-of two c h
 
 -- from the reading to the content
-abbrev MappedIs : FieldRule → List ℕ → List ℕ → Mapped → Type 0
+abbrev pub MappedIs : FieldRule → List ℕ → List ℕ → Mapped → Type 0
 MappedIs ρ last s (stops ps e) = Unit {0}
 MappedIs ρ last s (ends ps e r) = (pairsBytes ps (e ++ r) ≡ s) × Fine ρ last ps × Spells e 0
 
@@ -118,7 +118,7 @@ turn-is ρ last s j h (stop e) i = tt
 turn-is ρ last s j h (over a r) i = (i .0, record { framed = tt; rises = tt; keeps = tt }, i .1)
 turn-is ρ last s j h (one p r) i = front-is ρ last s r p (j (p .key) r) i (h (p .key) r)
 
-items-is : (n : ℕ) (ρ : FieldRule) (last s : List ℕ) → MappedIs ρ last s (items n ρ last s)
+pub items-is : (n : ℕ) (ρ : FieldRule) (last s : List ℕ) → MappedIs ρ last s (items n ρ last s)
 unfolding items
 items-is zero ρ last s = tt
 items-is (suc n) ρ last s = turn-is ρ last s (items n ρ) (λ l t. items-is n ρ l t) (item ρ last s) (item-is ρ last s)

@@ -4,6 +4,7 @@ pub mod Orderly
 pub mod Rooms
 pub mod Parsed
 pub mod Shown
+pub mod Stopped
 pub mod Given
 pub mod Prefixes
 pub mod Listings

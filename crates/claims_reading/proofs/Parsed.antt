@@ -26,7 +26,7 @@ sets-append l (x ∷ xs) ys i = ap (λ (n : ℕ). sets (sets (set l i x) (suc i)
 
 -- entries of w words each
 module _ {A : Type 0} (f : A → List ℕ) (w : ℕ) (wide : (x : A) → length (f x) ≡ w) where
-  length-joined : (xs : List A) → length (joined f xs) ≡ length xs * w
+  pub length-joined : (xs : List A) → length (joined f xs) ≡ length xs * w
   unfolding joined
   length-joined [] = omega arith
   length-joined (x ∷ xs) = rw (length-append, wide x, length-joined xs) (omega arith)
@@ -44,15 +44,15 @@ module _ {A : Type 0} (f : A → List ℕ) (w : ℕ) (wide : (x : A) → length 
       ∙ sets-append t (joined f xs) (joined f ys) (n * w)
       ∙ ap (sets t (n * w)) (sym (joined-append xs ys))
 
-  onto-is : (t : List ℕ) (xs : List A) → length xs * w ≤ length t → sets t 0 (joined f xs) ≡ onto t (joined f xs)
+  pub onto-is : (t : List ℕ) (xs : List A) → length xs * w ≤ length t → sets t 0 (joined f xs) ≡ onto t (joined f xs)
   unfolding onto
   onto-is t xs h = sets-eq (joined f xs) t 0 (rw (length-joined xs) (omega arith)) ∙ rw zero-add
 
-pair-wide : (e : PairEntry) → length (pairEntryWords e) ≡ pairWords
+pub pair-wide : (e : PairEntry) → length (pairEntryWords e) ≡ pairWords
 unfolding pairEntryWords
 pair-wide e = refl
 
-map-wide : (e : MapEntry) → length (mapEntryWords e) ≡ mapWords
+pub map-wide : (e : MapEntry) → length (mapEntryWords e) ≡ mapWords
 unfolding mapEntryWords
 map-wide e = refl
 
@@ -73,7 +73,7 @@ length-runs p [] = refl
 length-runs p (m ∷ ms) = ap suc (length-runs (p + length (m .pairs)) ms)
 
 -- the cut, with room for what is written
-cut-pairs : (ps : List Pair) (at p m i : ℕ) (P M : List ℕ) (t : Reading) → (p + length ps) * pairWords ≤ length P
+pub cut-pairs : (ps : List Pair) (at p m i : ℕ) (P M : List ℕ) (t : Reading) → (p + length ps) * pairWords ≤ length P
     → cut at p m i P M (pairEvents ps t) ≡ cut (behind at ps) (p + length ps) m i (sets P (p * pairWords) (joined pairEntryWords (entries at ps))) M t
 unfolding cut pairEvents behind entries joined putPair pairEntryWords
 cut-pairs [] at p m i P M t h = ap (λ (n : ℕ). cut at n m i P M t) (omega arith)

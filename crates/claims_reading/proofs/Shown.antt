@@ -116,21 +116,21 @@ fit-here f last at (p ∷ ps) x h F R =
     )
 
 -- the tables, by whole entries
-pair-entries : (es : List PairEntry) (t : List ℕ) → pairEntries (joined pairEntryWords es ++ t) ≡ es ++ pairEntries t
+pub pair-entries : (es : List PairEntry) (t : List ℕ) → pairEntries (joined pairEntryWords es ++ t) ≡ es ++ pairEntries t
 unfolding joined pairEntryWords pairEntries
 pair-entries [] t = refl
 pair-entries (e ∷ es) t = ap (λ (l : List PairEntry). e ∷ l) (pair-entries es t)
 
-map-entries : (es : List MapEntry) (t : List ℕ) → mapEntries (joined mapEntryWords es ++ t) ≡ es ++ mapEntries t
+pub map-entries : (es : List MapEntry) (t : List ℕ) → mapEntries (joined mapEntryWords es ++ t) ≡ es ++ mapEntries t
 unfolding joined mapEntryWords mapEntries
 map-entries [] t = refl
 map-entries (e ∷ es) t = ap (λ (l : List MapEntry). e ∷ l) (map-entries es t)
 
-abbrev Good : Map → Type 0
+abbrev pub Good : Map → Type 0
 Good m = All Framed (m .pairs) × Rises [] (m .pairs)
 
 -- map by map: `at` and p are where the maps ms begin in the file and among the entries es
-held-here : (f : List ℕ) (es : List PairEntry) (m : ℕ) (ms : List Map) (at p : ℕ) (r : List ℕ) (B : List PairEntry) (X : List MapEntry)
+pub held-here : (f : List ℕ) (es : List PairEntry) (m : ℕ) (ms : List Map) (at p : ℕ) (r : List ℕ) (B : List PairEntry) (X : List MapEntry)
     → drop at f ≡ mapsBytes ms r → drop p es ≡ mapsEntries at ms ++ B → p ≤ length es → All Good ms → m < length ms
     → heldBy f es (drop m (runs p ms ++ X)) ≡ entriesBy at m ms
 unfolding mapsBytes mapBytes mapsEntries runs heldBy fitted entriesBy
@@ -174,7 +174,7 @@ file-here : (f : List ℕ) (c : Content) → bytes c ≡ f → drop (length magi
 unfolding bytes mapsOf mapsBytes
 file-here f c e = ap (drop (length magic)) (sym e) ∙ ap (mapBytes (c .global)) (sym (mapsBytes-append (c .ins) (c .outs) []))
 
-good-map : (ρ : FieldRule) (m : Map) → FineMap ρ m → Good m
+pub good-map : (ρ : FieldRule) (m : Map) → FineMap ρ m → Good m
 good-map ρ m h = (h .pairs .framed, h .pairs .rises)
 
 good-maps : (ρ : FieldRule) (ms ns : List Map) → All (FineMap ρ) ms → All Good ns → All Good (ms ++ ns)
@@ -188,7 +188,7 @@ all-good c h = (
   good-maps (two .input) (c .ins) (c .outs) (h .ins) (subst (All Good) (append-nil (c .outs)) (good-maps (two .output) (c .outs) [] (h .outs) tt)),
 )
 
-view-here : (f : List ℕ) (m : ℕ) (ms : List Map) (at : ℕ) (r : List ℕ) → drop at f ≡ mapsBytes ms r → viewOf f (entriesBy at m ms) ≡ viewBy m ms
+pub view-here : (f : List ℕ) (m : ℕ) (ms : List Map) (at : ℕ) (r : List ℕ) → drop at f ≡ mapsBytes ms r → viewOf f (entriesBy at m ms) ≡ viewBy m ms
 unfolding viewOf entriesBy viewBy mapsBytes mapBytes
 view-here f m [] at r h = refl
 view-here f zero (x ∷ ms) at r h = ap shows (shown-here f at (x .pairs) _ h)

@@ -1,4 +1,4 @@
--- The text of an accepted file is its content's: an input's line shows what the lock rule takes of that input. That of a refused file is its refusal.
+-- The text of an accepted file is its content's: an input's line shows what the lock rule takes of that input.
 use mathlib.Core.Path.{_≡_, refl, sym, _∙_, ap}
 use mathlib.Core.List.{List, [], _∷_, _++_}
 use Prim.Native.Nat.{ℕ, suc, _+_, _<_}
@@ -7,26 +7,20 @@ use borrow.Author.Tests.{lt-ltb}
 use lib.Dec.{ltb}
 use lib.ListN.{length}
 use Rattle.format.specs.Content.{Map, Content, mapsOf, psbtOf}
-use Rattle.format.specs.Reading.{accepted, refused, reading, events}
+use Rattle.format.specs.Reading.{accepted, reading}
 use Rattle.format.specs.Locks.{inOf}
 use Rattle.format.specs.Tables.{heldInput, view}
-use Rattle.format.specs.Parse.{ParseOut, out, parsed}
 use Rattle.format.specs.Fields.{numberField, requiredHeightLocktime, requiredTimeLocktime}
 use Rattle.format.specs.Transaction.{unsignedTx, lockDecided}
-use Rattle.format.specs.declared.PsbtError.{PsbtError}
 use Rattle.format.specs.declared.Numbered.{Numbered}
-use Rattle.format.specs.declared.Parsed.the-variants.{Refused}
 use Rattle.format.proofs.Tests.{pick-yes}
 use Rattle.claims_reading.specs.Shown.{viewBy, pairTable, mapTable, Room}
-use Rattle.claims_reading.specs.Rooms.{Roomy, pairs#, ended#, answer}
 use Rattle.claims_reading.proofs.Files.{reading-is}
 use Rattle.claims_reading.proofs.Parsed.{parse-is}
-use Rattle.claims_reading.proofs.Rooms.{room-refuses}
 use Rattle.claims_reading.proofs.Shown.{view-is, every-call}
 use Rattle.claims_calls.specs.Asked.{asksFor, seenIn}
 use Rattle.claims_calls.proofs.Asked.{number-seen, seen-bare}
 use Rattle.claims_calls.proofs.Views.{view-front}
-use Rattle.reasons.specs.Reasons.{refusedLine}
 use Rattle.lock_lines.specs.Lines.{headLine, verdict}
 use Rattle.rooms.specs.Rooms.{fresh}
 use Rattle.why_text.specs.Why.{heightAsked, timeAsked, inputsText, answered, acceptedText, parsedText, whyIn}
@@ -78,12 +72,3 @@ module _ (f : List ℕ) (c : Content) (P M : List ℕ) (e : reading f ≡ accept
       (λ (l : List ℕ). headLine (psbtOf (c .global .pairs) .inputs) (psbtOf (c .global .pairs) .«fallback_locktime»)
       ++ (l ++ verdict (lockDecided (λ n. viewBy n (mapsOf c)) (psbtOf (c .global .pairs))) (answered (unsignedTx (λ n. viewBy n (mapsOf c)) (psbtOf (c .global .pairs)) fresh [] B))))
       lines-seen
-
--- a refused file, with room for what is read before the refusal
-refused-text : (B f : List ℕ) (o : ParseOut) (e : PsbtError) (p m : ℕ) → answer o ≡ Refused e p m → parsedText B f o ≡ refusedLine e
-unfolding answer parsedText
-refused-text B f (out r P M) e p m q = rw q
-
-pub why-refused : (f : List ℕ) (e : PsbtError) (P M B : List ℕ) → reading f ≡ refused e → Roomy (events f) P M → whyIn P M B f ≡ refusedLine e
-unfolding whyIn
-why-refused f e P M B q r = refused-text B f (parsed f P M) e (pairs# (events f)) (ended# (events f)) (room-refuses f P M e q r)

@@ -19,8 +19,10 @@ use Rattle.rooms.specs.Rooms.{fresh}
 use Rattle.rooms.proofs.Zeros.{zeros-long}
 use Rattle.rooms.proofs.Taken.{reports-few}
 use Rattle.reasons.proofs.Sizes.{refused-most}
+use Rattle.stop_lines.specs.Stops.{stopped}
+use Rattle.stop_lines.proofs.Sizes.{stop-most}
 use Rattle.lock_lines.proofs.Sizes.{head-most, input-most, verdict-most}
-use Rattle.why_text.specs.Why.{heightAsked, timeAsked, inputsText, answered, acceptedText, parsedText, whyIn, why}
+use Rattle.why_text.specs.Why.{heightAsked, timeAsked, inputsText, answered, acceptedText, refusedText, parsedText, whyIn, why}
 
 -- the inputs' lines
 inputs-most : (h t : ℕ → Numbered) (i n : ℕ) → i + n ≤ 1000 → length (inputsText h t i n) ≤ 115 * n
@@ -38,11 +40,11 @@ accepted-most f P M s B h =
     simp length-append (omega (arith, a, b, c))
 
 in-most : (P M B f : List ℕ) → length M ≤ mostMaps * mapWords → length (whyIn P M B f) ≤ 30720
-unfolding whyIn parsedText
+unfolding whyIn parsedText refusedText
 in-most P M B f h = by (parsed f P M) refl
   where
     by : (o : ParseOut) → parsed f P M ≡ o → length (parsedText B f o) ≤ 30720
-    by (out (Refused e p m) P′ M′) q = omega (arith, refused-most e)
+    by (out (Refused e p m) P′ M′) q = simp length-append (omega (arith, refused-most e, stop-most (stopped f P′ M′ e p m)))
     by (out (Accepted s p m) P′ M′) q = accepted-most f P′ M′ s B (omega (arith, reports-few f P M s p m P′ M′ q))
 
 -- so of every file

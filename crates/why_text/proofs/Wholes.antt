@@ -25,7 +25,7 @@ use Rattle.rooms.specs.Limits.{longest}
 use Rattle.rooms.specs.Rooms.{pairRoom, mapRoom, txRoom, fresh}
 use Rattle.reasons.specs.Reasons.{refusedLine}
 use Rattle.lock_lines.specs.Lines.{headLine, inputLine, verdict}
-use Rattle.why_text.specs.Why.{heightAsked, timeAsked, inputsText, answered, acceptedText, parsedText, whyIn, why}
+use Rattle.why_text.specs.Why.{heightAsked, timeAsked, inputsText, answered, acceptedText, refusedText, parsedText, whyIn, why}
 
 -- the lines of the n inputs from number i on
 abbrev lines : List ℕ → List ℕ → List ℕ → Psbt → ℕ → ℕ → List ℕ
@@ -76,7 +76,7 @@ module _ (s t : Spot) (f P M B P′ M′ : List ℕ) (r : Parsed) (e : toldWith 
   unfolding whyIn toldParse
   text-is = ap (parsedText B f) (parse-out-one (out r P′ M′) (parsed f P M) e)
 
-  pub parsed-refused : (x : PsbtError) (p m : ℕ) → r ≡ Refused x p m → t ≡ lay s (refusedLine x) → t ≡ lay s (whyIn P M B f)
+  pub parsed-refused : (x : PsbtError) (p m : ℕ) → r ≡ Refused x p m → t ≡ lay s (refusedText f P′ M′ x p m) → t ≡ lay s (whyIn P M B f)
   unfolding parsedText
   parsed-refused x p m w h = h ∙ ap (lay s) (sym (ap (λ (r : Parsed). parsedText B f (out r P′ M′)) w) ∙ text-is)
 

@@ -2,7 +2,7 @@
 use Prim.Native.Nat.{ℕ}
 use mathlib.Core.Path.{_≡_, refl}
 use mathlib.Core.List.{List, [], _∷_}
-use Rattle.format.specs.ExampleFiles.{fileF, fileFWith, fallback, script, time, height}
+use Rattle.format.specs.ExampleFiles.{fileF, fileFWith, fallback, script, outputIndex, time, height}
 use Rattle.format.specs.Computed.{computes}
 use Rattle.format.specs.Tables.{heldInput}
 use Rattle.format.specs.Lookups.{place, lengthFits, ofLength, asked, numberAt}
@@ -13,12 +13,13 @@ use Rattle.text.specs.Spelled.{digit, decimalIn, decimal}
 use Rattle.utc.specs.Dates.{leap, yearLength, isShort, monthLength, yearFrom, yearOf, monthFrom, monthOf, twoDigits, ymdText, monthText, dayText, hourText, dateText}
 use Rattle.rooms.specs.Rooms.{zeros}
 use Rattle.reasons.specs.Reasons.{meaning, refusedLine}
+use Rattle.stop_lines.specs.Examples.{stops}
 use Rattle.lock_lines.specs.Lines.{heightNumber, timeNumber, lockText, fallbackText, headLine, heightText, timeText, inputLine, lackText, txLine, outcome, fallbackDecided, heightDecided, timeDecided, bothLine, tooGreatLine, tooSmallLine, malformedLine, verdict}
-use Rattle.why_text.specs.Why.{heightAsked, timeAsked, inputsText, answered, acceptedText, parsedText, whyIn, why}
+use Rattle.why_text.specs.Why.{heightAsked, timeAsked, inputsText, answered, acceptedText, refusedText, parsedText, whyIn, why}
 
 -- all that a text is made of
 unfoldable pub prints : List ℕ → List ℕ
-unfolding computes heldInput place lengthFits ofLength asked numberAt partField numberField requiredHeightLocktime requiredTimeLocktime lockBy lockDecided digit decimalIn decimal leap yearLength isShort monthLength yearFrom yearOf monthFrom monthOf twoDigits ymdText monthText dayText hourText dateText zeros meaning refusedLine heightNumber timeNumber lockText fallbackText headLine heightText timeText inputLine lackText txLine outcome fallbackDecided heightDecided timeDecided bothLine tooGreatLine tooSmallLine malformedLine verdict heightAsked timeAsked inputsText answered acceptedText parsedText whyIn why
+unfolding computes stops heldInput place lengthFits ofLength asked numberAt partField numberField requiredHeightLocktime requiredTimeLocktime lockBy lockDecided digit decimalIn decimal leap yearLength isShort monthLength yearFrom yearOf monthFrom monthOf twoDigits ymdText monthText dayText hourText dateText zeros meaning refusedLine heightNumber timeNumber lockText fallbackText headLine heightText timeText inputLine lackText txLine outcome fallbackDecided heightDecided timeDecided bothLine tooGreatLine tooSmallLine malformedLine verdict heightAsked timeAsked inputsText answered acceptedText refusedText parsedText whyIn why
 prints = why
 
 -- the text of F
@@ -66,3 +67,12 @@ textHeight =
 pub why-height : why (fileFWith (fallback 1_700_000_000) (height 800_000) script) ≡ textHeight
 unfolding prints
 why-height = refl
+
+-- the text of F with its output index twice
+abbrev pub textTwice : List ℕ
+textTwice = lines (say "refused 5: a key stands twice" ∷ say "stopped in input 0, after 2 pairs" ∷ [])
+
+-- so it prints: refused, in input 0
+pub why-twice : why (fileFWith [] outputIndex script) ≡ textTwice
+unfolding prints
+why-twice = refl

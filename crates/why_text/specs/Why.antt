@@ -8,6 +8,7 @@ use Rattle.format.specs.Tables.{view, heldInput}
 use Rattle.format.specs.Fields.{requiredHeightLocktime, requiredTimeLocktime}
 use Rattle.format.specs.Parse.{ParseOut, out, parsed}
 use Rattle.format.specs.Transaction.{TxOut, txOut, unsignedTx, lockDecided}
+use Rattle.format.specs.declared.PsbtError.{PsbtError}
 use Rattle.format.specs.declared.PsbtError.the-variants.{TooLong}
 use Rattle.format.specs.declared.Psbt.{Psbt}
 use Rattle.format.specs.declared.Numbered.{Numbered}
@@ -16,6 +17,7 @@ use Rattle.format.specs.declared.Parsed.the-variants.{Accepted, Refused}
 use Rattle.rooms.specs.Limits.{longest}
 use Rattle.rooms.specs.Rooms.{pairRoom, mapRoom, txRoom, fresh}
 use Rattle.reasons.specs.Reasons.{refusedLine}
+use Rattle.stop_lines.specs.Stops.{stopped, stopLine}
 use Rattle.lock_lines.specs.Lines.{headLine, inputLine, verdict}
 
 -- the height that input number i asks for, as its lookup answers
@@ -41,9 +43,13 @@ acceptedText f P M s B =
     headLine (s .inputs) (s .«fallback_locktime») ++ (inputsText (heightAsked f P M s) (timeAsked f P M s) 0 (s .inputs)
     ++ verdict (lockDecided (view f P M s) s) (answered (unsignedTx (view f P M s) s fresh [] B)))
 
--- by the parse: a refusal and what it means, or what the tables show
+-- the text of a refused file: what the refusal means, and where the parse stopped
+unfoldable pub refusedText : List ℕ → List ℕ → List ℕ → PsbtError → ℕ → ℕ → List ℕ
+refusedText f P M e p m = refusedLine e ++ stopLine (stopped f P M e p m)
+
+-- by the parse: the refusal, or what the tables show
 unfoldable pub parsedText : List ℕ → List ℕ → ParseOut → List ℕ
-parsedText B f (out (Refused e p m) P M) = refusedLine e
+parsedText B f (out (Refused e p m) P M) = refusedText f P M e p m
 parsedText B f (out (Accepted s p m) P M) = acceptedText f P M s B
 
 -- the text of a file, parsed into the tables P and M, with the room B for its transaction

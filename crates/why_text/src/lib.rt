@@ -12,13 +12,14 @@ use rooms::file_room;
 use rooms::map_room;
 use rooms::pair_room;
 use rooms::tx_room;
+use stop_lines::put_stop;
 use typed::input::required_height_locktime;
 use typed::input::required_time_locktime;
 ghost use mathlib.Core.Path.{_≡_};
 ghost use Prim.Native.Nat.{_≤_};
 ghost use lib.ListN.{length, take};
 ghost use Rattle.text.specs.Spots.{spot, lay};
-ghost use Rattle.why_text.specs.Why.{heightAsked, timeAsked, inputsText, acceptedText, whyIn, why};
+ghost use Rattle.why_text.specs.Why.{heightAsked, timeAsked, inputsText, acceptedText, refusedText, whyIn, why};
 
 // What all inputs ask for, a line each.
 fn put_inputs(
@@ -66,6 +67,23 @@ fn put_accepted(
     put_verdict(out, to, lock, x)
 }
 
+// The text of a refused file: what the refusal means, and where the parse stopped.
+fn put_refusal(
+    out: &mut [u8],
+    at: usize,
+    file: &[u8],
+    pairs: &[u32],
+    maps: &[u32],
+    e: PsbtError,
+    p: usize,
+    m: usize,
+) -> usize
+    ensures { λ r. ⌜ spot r (now (out .exit)) ≡ lay (spot at (now (out .entry))) (refusedText (now (file .entry)) (now (pairs .entry)) (now (maps .entry)) e p m) ⌝ }
+{
+    let to = put_refused(out, at, e);
+    put_stop(out, to, file, pairs, maps, e, p, m)
+}
+
 // The text of a file, parsed into these tables and with this room for the transaction.
 fn put_parsed(
     out: &mut [u8],
@@ -85,9 +103,9 @@ fn put_parsed(
         } => put_accepted(out, at, file, pairs, maps, psbt, tx),
         Parsed::Refused {
             error,
-            pairs: _,
-            maps: _,
-        } => put_refused(out, at, error),
+            pairs: p,
+            maps: m,
+        } => put_refusal(out, at, file, pairs, maps, error, p, m),
     }
 }
 
