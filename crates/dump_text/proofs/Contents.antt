@@ -53,7 +53,8 @@ dump-accepted f c P M B e r =
     ap (parsedText B f) (parse-is f c P M e r)
     ∙ every-call f c P M e (λ v. acceptedText v (psbtOf (c .global .pairs)) B)
     ∙ ap (λ (l : List ℕ). headLine (psbtOf (c .global .pairs)) ++ (l ++ txLine (unsignedTx (λ n. viewBy n (mapsOf c)) (psbtOf (c .global .pairs)) fresh [] B)))
-    (ap (mapsText (λ n. viewBy n (mapsOf c)) 0) (sym (one-plus-counts f c e)) ∙ lines-are (λ n. viewBy n (mapsOf c)) 0 (mapsOf c) (λ j. ap (λ (n : ℕ). viewBy n (mapsOf c)) (zero-add j)))
+    (ap (mapsText (λ n. viewBy n (mapsOf c)) 0) (sym (one-plus-counts f c e)) ∙ lines-are (λ n. viewBy n (mapsOf c)) 0 (mapsOf c)
+    (λ j. ap (λ (n : ℕ). viewBy n (mapsOf c)) (zero-add j)))
 
 -- a refused file, with room for what is read before the refusal
 refused-text : (B f : List ℕ) (o : ParseOut) (e : PsbtError) (p m : ℕ) → answer o ≡ Refused e p m → parsedText B f o ≡ refusedLine e
@@ -65,8 +66,10 @@ unfolding dumpIn
 dump-refused f e P M B q r = refused-text B f (parsed f P M) e (pairs# (events f)) (ended# (events f)) (room-refuses f P M e q r)
 
 -- and so of the dump's own rooms
-pub dump-is : (f : List ℕ) (c : Content) → reading f ≡ accepted c → length f ≤ longest → pairsIn (mapsOf c) ≤ mostPairs → length (mapsOf c) ≤ mostMaps → dump f ≡ contentText c txRoom
+pub dump-is : (f : List ℕ) (c : Content) → reading f ≡ accepted c → length f ≤ longest → pairsIn (mapsOf c) ≤ mostPairs → length (mapsOf c) ≤ mostMaps
+    → dump f ≡ contentText c txRoom
 unfolding dump
 dump-is f c e h p m =
     rw (le-ltb longest (length f) h)
-    (dump-accepted f c pairRoom mapRoom txRoom e (record { pairs = omega (arith, zeros-long (mostPairs * pairWords)); maps = omega (arith, zeros-long (mostMaps * mapWords)) }))
+    (dump-accepted f c pairRoom mapRoom txRoom e
+    (record { pairs = omega (arith, zeros-long (mostPairs * pairWords)); maps = omega (arith, zeros-long (mostMaps * mapWords)) }))

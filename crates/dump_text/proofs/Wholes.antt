@@ -24,7 +24,8 @@ use Rattle.dump_text.specs.Dump.{txLine, acceptedText, parsedText, dumpI
 
 -- the head, the maps, the last line
 pub accepted-text : (s t₁ t₂ t₃ : Spot) (v : ℕ → View) (x : Psbt) (B B′ : List ℕ) (a : UnsignedTx)
-    → t₁ ≡ lay s (headLine x) → t₂ ≡ lay t₁ (mapsText v 0 (mapsReported x)) → toldLeft (toldTx a) B′ ≡ toldTxOut (unsignedTx v x fresh [] B) → t₃ ≡ lay t₂ (unsignedLine a B′)
+    → t₁ ≡ lay s (headLine x) → t₂ ≡ lay t₁ (mapsText v 0 (mapsReported x)) → toldLeft (toldTx a) B′ ≡ toldTxOut (unsignedTx v x fresh [] B)
+    → t₃ ≡ lay t₂ (unsignedLine a B′)
     → t₃ ≡ lay s (acceptedText v x B)
 unfolding acceptedText txLine toldTxOut
 accepted-text s t₁ t₂ t₃ v x B B′ a p q e r =

@@ -34,3 +34,7 @@ dumpIn P M B f = parsedText B f (parsed f P M)
 -- the dump: room for 1,024 pairs, 256 maps and 65,536 transaction bytes; a file above 65,536 bytes is too long
 unfoldable pub dump : List ℕ → List ℕ
 dump f = pick (ltb longest (length f)) (refusedLine TooLong) (dumpIn pairRoom mapRoom txRoom f)
+
+-- no dump is longer, in bytes
+abbrev pub longestDump : ℕ
+longestDump = 272_384

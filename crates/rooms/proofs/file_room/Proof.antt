@@ -4,4 +4,4 @@ use Rattle.rooms.proofs.file_room.Statement.{statement}
 use Rattle.rooms.proofs.file_room.Tie as tie
 
 pub file-room-spec : {M : Type 1} → statement M
-file-room-spec = tie.close (tie.spec (λ c. room 65537))
+file-room-spec = tie.close (tie.spec (λ c. room _))

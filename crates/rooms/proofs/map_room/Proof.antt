@@ -4,4 +4,4 @@ use Rattle.rooms.proofs.map_room.Statement.{statement}
 use Rattle.rooms.proofs.map_room.Tie as tie
 
 pub map-room-spec : {M : Type 1} → statement M
-map-room-spec = tie.close (tie.spec (λ c. (room-is 512, room 512)))
+map-room-spec = tie.close (tie.spec (λ c. (room-is _, room _)))

@@ -4,4 +4,4 @@ use Rattle.rooms.proofs.pair_room.Statement.{statement}
 use Rattle.rooms.proofs.pair_room.Tie as tie
 
 pub pair-room-spec : {M : Type 1} → statement M
-pair-room-spec = tie.close (tie.spec (λ c. (room-is 4096, room 4096)))
+pair-room-spec = tie.close (tie.spec (λ c. (room-is _, room _)))

@@ -4,4 +4,4 @@ use Rattle.rooms.proofs.tx_room.Statement.{statement}
 use Rattle.rooms.proofs.tx_room.Tie as tie
 
 pub tx-room-spec : {M : Type 1} → statement M
-tx-room-spec = tie.close (tie.spec (λ c. (room-is 65536, room 65536)))
+tx-room-spec = tie.close (tie.spec (λ c. (room-is _, room _)))
