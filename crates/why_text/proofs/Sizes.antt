@@ -20,6 +20,8 @@ use Rattle.dump_text.proofs.Contents.{zeros-long}
 use Rattle.dump_text.proofs.Sizes.{reports-few}
 use Rattle.reasons.proofs.Sizes.{refused-most}
 use Rattle.lock_lines.proofs.Sizes.{head-most, input-most, verdict-most}
+use Rattle.heed_lines.specs.Heeds.{heedOf}
+use Rattle.heed_lines.proofs.Sizes.{heed-most}
 use Rattle.why_text.specs.Why.{heightAsked, timeAsked, inputsText, answered, acceptedText, parsedText, whyIn, why}
 
 -- the inputs' lines
@@ -35,7 +37,8 @@ accepted-most f P M s B h =
     let a = head-most (s .inputs) (s .«fallback_locktime») in
     let b = inputs-most (heightAsked f P M s) (timeAsked f P M s) 0 (s .inputs) (omega arith) in
     let c = verdict-most (lockDecided (view f P M s) s) (answered (unsignedTx (view f P M s) s fresh [] B)) in
-    simp length-append (omega (arith, a, b, c))
+    let d = heed-most (lockDecided (view f P M s) s) (heedOf f P M s) in
+    simp length-append (omega (arith, a, b, c, d))
 
 in-most : (P M B f : List ℕ) → length M ≤ mostMaps * mapWords → length (whyIn P M B f) ≤ 30720
 unfolding whyIn parsedText

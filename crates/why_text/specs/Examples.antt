@@ -1,12 +1,13 @@
 -- Texts that the definition gives, computed.
 use Prim.Native.Nat.{ℕ}
 use mathlib.Core.Path.{_≡_, refl}
-use mathlib.Core.List.{List, [], _∷_}
+use mathlib.Core.List.{List, [], _∷_, _++_}
 use Rattle.format.specs.ExampleFiles.{fileF, fileFWith, fallback, script, time, height}
+use Rattle.format.specs.Numbers.{bytesOf}
 use Rattle.format.specs.Computed.{computes}
 use Rattle.format.specs.Tables.{heldInput}
 use Rattle.format.specs.Lookups.{place, lengthFits, ofLength, asked, numberAt}
-use Rattle.format.specs.Fields.{partField, numberField, requiredHeightLocktime, requiredTimeLocktime}
+use Rattle.format.specs.Fields.{partField, numberField, sequence, requiredHeightLocktime, requiredTimeLocktime}
 use Rattle.format.specs.Transaction.{lockBy, lockDecided}
 use Rattle.text.specs.Say.{say, lines}
 use Rattle.text.specs.Spelled.{digit, decimalIn, decimal}
@@ -14,11 +15,12 @@ use Rattle.utc.specs.Dates.{leap, yearLength, isShort, monthLength, yearFrom, y
 use Rattle.dump_text.specs.Dump.{zeros}
 use Rattle.reasons.specs.Reasons.{meaning, refusedLine}
 use Rattle.lock_lines.specs.Lines.{heightNumber, timeNumber, lockText, fallbackText, headLine, heightText, timeText, inputLine, lackText, txLine, outcome, fallbackDecided, heightDecided, timeDecided, bothLine, tooGreatLine, tooSmallLine, malformedLine, verdict}
+use Rattle.heed_lines.specs.Heeds.{isFinal, heedFrom, sequenceOf, heedOf, heedText, numberDecided, heedLine}
 use Rattle.why_text.specs.Why.{heightAsked, timeAsked, inputsText, answered, acceptedText, parsedText, whyIn, why}
 
 -- all that a text is made of
 unfoldable pub prints : List ℕ → List ℕ
-unfolding computes heldInput place lengthFits ofLength asked numberAt partField numberField requiredHeightLocktime requiredTimeLocktime lockBy lockDecided digit decimalIn decimal leap yearLength isShort monthLength yearFrom yearOf monthFrom monthOf twoDigits ymdText monthText dayText hourText dateText zeros meaning refusedLine heightNumber timeNumber lockText fallbackText headLine heightText timeText inputLine lackText txLine outcome fallbackDecided heightDecided timeDecided bothLine tooGreatLine tooSmallLine malformedLine verdict heightAsked timeAsked inputsText answered acceptedText parsedText whyIn why
+unfolding computes heldInput place lengthFits ofLength asked numberAt partField numberField sequence requiredHeightLocktime requiredTimeLocktime lockBy lockDecided digit decimalIn decimal leap yearLength isShort monthLength yearFrom yearOf monthFrom monthOf twoDigits ymdText monthText dayText hourText dateText zeros meaning refusedLine heightNumber timeNumber lockText fallbackText headLine heightText timeText inputLine lackText txLine outcome fallbackDecided heightDecided timeDecided bothLine tooGreatLine tooSmallLine malformedLine verdict isFinal heedFrom sequenceOf heedOf heedText numberDecided heedLine heightAsked timeAsked inputsText answered acceptedText parsedText whyIn why
 prints = why
 
 -- the text of F
@@ -60,9 +62,31 @@ textHeight =
     ∷ say "the greatest height asked decides: input 0"
     ∷ say "lock height 800000"
     ∷ say "transaction of 61 bytes"
+    ∷ say "the network ignores this lock, the transaction may be spent at once: no input has a sequence below ffffffff"
     ∷ [])
 
--- so it prints: the height decides
+-- so it prints: the height decides, and since the input has no sequence, the network ignores it
 pub why-height : why (fileFWith (fallback 1_700_000_000) (height 800_000) script) ≡ textHeight
 unfolding prints
 why-height = refl
+
+-- an input's sequence
+abbrev pub sequenced : ℕ → List ℕ
+sequenced n = 1 ∷ 0x10 ∷ 4 ∷ bytesOf 4 n
+
+-- the text of F with a time of 2030 and the sequence fffffffe
+abbrev pub textHeeded : List ℕ
+textHeeded =
+    lines
+    (say "inputs 1, fallback none"
+    ∷ say "input 0 asks no height and time 1893456000 (2030-01-01 00:00:00 UTC)"
+    ∷ say "the greatest time asked decides: input 0"
+    ∷ say "lock time 1893456000 (2030-01-01 00:00:00 UTC)"
+    ∷ say "transaction of 61 bytes"
+    ∷ say "the network heeds this lock: input 0 has a sequence below ffffffff"
+    ∷ [])
+
+-- so it prints: the network heeds the time
+pub why-heeded : why (fileFWith [] (sequenced 0xffff_fffe ++ time 1_893_456_000) script) ≡ textHeeded
+unfolding prints
+why-heeded = refl

@@ -7,6 +7,8 @@ use format::Parsed;
 use format::Psbt;
 use format::PsbtError;
 use format::State;
+use heed_lines::heed_of;
+use heed_lines::put_heed;
 use lock_lines::put_head;
 use lock_lines::put_input;
 use lock_lines::put_verdict;
@@ -65,7 +67,9 @@ fn put_accepted(
     };
     let x = unsigned_tx::unsigned_tx(file, pairs, maps, psbt, fresh, &file[..0], tx);
     let lock = lock::lock_decided(file, pairs, maps, psbt);
-    put_verdict(out, to, lock, x)
+    let to = put_verdict(out, to, lock, x);
+    let heed = heed_of(file, pairs, maps, psbt);
+    put_heed(out, to, lock, heed)
 }
 
 // The text of a file, parsed into these tables and with this room for the transaction.
