@@ -61,7 +61,8 @@ pub ruleset heeding = (heeds-first, heeds-none, heeds-more, heeds-here)
 pub text-ignored : (s t : Spot) (x : Heed) (b : List ℕ) → x ≡ Ignored → t ≡ lay s b → b ≡ heedText Ignored → t ≡ lay s (heedText x)
 text-ignored s t x b e h q = h ∙ ap (lay s) (q ∙ sym (ap heedText e))
 
-pub text-heeded : (s t₁ t₂ t₃ : Spot) (x : Heed) (i : ℕ) → x ≡ By i → t₁ ≡ lay s sayHeeds → t₂ ≡ lay t₁ (decimal i) → t₃ ≡ lay t₂ sayBelow → t₃ ≡ lay s (heedText x)
+pub text-heeded : (s t₁ t₂ t₃ : Spot) (x : Heed) (i : ℕ) → x ≡ By i → t₁ ≡ lay s sayHeeds → t₂ ≡ lay t₁ (decimal i) → t₃ ≡ lay t₂ sayBelow
+    → t₃ ≡ lay s (heedText x)
 unfolding heedText
 text-heeded s t₁ t₂ t₃ x i e a b c = chain3 s t₁ t₂ t₃ _ _ _ _ a b c refl ∙ ap (λ (y : Heed). lay s (heedText y)) (sym e)
 

@@ -5,22 +5,51 @@ use mathlib.Core.List.{List, [], _∷_, _++_}
 use Rattle.format.specs.ExampleFiles.{fileF, fileFWith, fallback, script, time, height}
 use Rattle.format.specs.Numbers.{bytesOf}
 use Rattle.format.specs.Computed.{computes}
-use Rattle.format.specs.Tables.{heldInput}
+use Rattle.format.specs.Tables.{Held, heldInput}
 use Rattle.format.specs.Lookups.{place, lengthFits, ofLength, asked, numberAt}
 use Rattle.format.specs.Fields.{partField, numberField, sequence, requiredHeightLocktime, requiredTimeLocktime}
 use Rattle.format.specs.Transaction.{lockBy, lockDecided}
+use Rattle.format.specs.declared.Numbered.{Numbered}
+use Rattle.format.specs.declared.Lock.{Lock}
+use Rattle.format.specs.declared.UnsignedTx.{UnsignedTx}
 use Rattle.text.specs.Say.{say, lines}
 use Rattle.text.specs.Spelled.{digit, decimalIn, decimal}
 use Rattle.utc.specs.Dates.{leap, yearLength, isShort, monthLength, yearFrom, yearOf, monthFrom, monthOf, twoDigits, ymdText, monthText, dayText, hourText, dateText}
 use Rattle.dump_text.specs.Dump.{zeros}
 use Rattle.reasons.specs.Reasons.{meaning, refusedLine}
 use Rattle.lock_lines.specs.Lines.{heightNumber, timeNumber, lockText, fallbackText, headLine, heightText, timeText, inputLine, lackText, txLine, outcome, fallbackDecided, heightDecided, timeDecided, bothLine, tooGreatLine, tooSmallLine, malformedLine, verdict}
+use Rattle.heed_lines.specs.declared.Heed.{Heed}
 use Rattle.heed_lines.specs.Heeds.{isFinal, heedFrom, sequenceOf, heedOf, heedText, numberDecided, heedLine}
 use Rattle.why_text.specs.Why.{heightAsked, timeAsked, inputsText, answered, acceptedText, parsedText, whyIn, why}
 
+-- all that a lookup of an input's number is made of
+unfoldable pub looksUp : List ℕ → Held → Numbered
+unfolding heldInput place lengthFits ofLength asked numberAt partField numberField sequence requiredHeightLocktime requiredTimeLocktime
+looksUp = sequence
+
+-- all that a date is made of
+unfoldable pub dates : ℕ → List ℕ
+unfolding digit decimalIn decimal leap yearLength isShort monthLength yearFrom yearOf monthFrom monthOf twoDigits ymdText monthText dayText hourText dateText
+dates = dateText
+
+-- all that the head and the lines of inputs are made of
+unfoldable pub asks : (ℕ → Numbered) → (ℕ → Numbered) → ℕ → ℕ → List ℕ
+unfolding heightNumber timeNumber lockText fallbackText headLine heightText timeText inputLine heightAsked timeAsked inputsText
+asks = inputsText
+
+-- all that a verdict is made of, but for the numbers in it
+unfoldable pub judges : Lock → UnsignedTx → List ℕ
+unfolding lackText txLine outcome fallbackDecided heightDecided timeDecided bothLine tooGreatLine tooSmallLine malformedLine verdict
+judges = verdict
+
+-- all that the last line is made of
+unfoldable pub heeds : Lock → Heed → List ℕ
+unfolding isFinal heedFrom sequenceOf heedOf heedText numberDecided heedLine
+heeds = heedLine
+
 -- all that a text is made of
 unfoldable pub prints : List ℕ → List ℕ
-unfolding computes heldInput place lengthFits ofLength asked numberAt partField numberField sequence requiredHeightLocktime requiredTimeLocktime lockBy lockDecided digit decimalIn decimal leap yearLength isShort monthLength yearFrom yearOf monthFrom monthOf twoDigits ymdText monthText dayText hourText dateText zeros meaning refusedLine heightNumber timeNumber lockText fallbackText headLine heightText timeText inputLine lackText txLine outcome fallbackDecided heightDecided timeDecided bothLine tooGreatLine tooSmallLine malformedLine verdict isFinal heedFrom sequenceOf heedOf heedText numberDecided heedLine heightAsked timeAsked inputsText answered acceptedText parsedText whyIn why
+unfolding computes looksUp dates asks judges heeds lockBy lockDecided zeros meaning refusedLine answered acceptedText parsedText whyIn why
 prints = why
 
 -- the text of F

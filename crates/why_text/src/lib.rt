@@ -1,4 +1,5 @@
-// The text that `why` prints of a file: what its inputs ask of the lock, what decided it, and whether a transaction is given.
+// The text that `why` prints of a file: what its inputs ask of the lock, what decided it, whether a transaction is given, and whether the network
+// heeds the lock.
 use dump_text::file_room;
 use dump_text::map_room;
 use dump_text::pair_room;
