@@ -22,6 +22,8 @@ use Rattle.reasons.proofs.Sizes.{refused-most}
 use Rattle.stop_lines.specs.Stops.{stopped}
 use Rattle.stop_lines.proofs.Sizes.{stop-most}
 use Rattle.lock_lines.proofs.Sizes.{head-most, input-most, verdict-most}
+use Rattle.heed_lines.specs.Heeds.{heedOf}
+use Rattle.heed_lines.proofs.Sizes.{heed-most}
 use Rattle.why_text.specs.Why.{heightAsked, timeAsked, inputsText, answered, acceptedText, refusedText, parsedText, whyIn, why}
 
 -- the inputs' lines
@@ -37,7 +39,8 @@ accepted-most f P M s B h =
     let a = head-most (s .inputs) (s .«fallback_locktime») in
     let b = inputs-most (heightAsked f P M s) (timeAsked f P M s) 0 (s .inputs) (omega arith) in
     let c = verdict-most (lockDecided (view f P M s) s) (answered (unsignedTx (view f P M s) s fresh [] B)) in
-    simp length-append (omega (arith, a, b, c))
+    let d = heed-most (lockDecided (view f P M s) s) (heedOf f P M s) in
+    simp length-append (omega (arith, a, b, c, d))
 
 in-most : (P M B f : List ℕ) → length M ≤ mostMaps * mapWords → length (whyIn P M B f) ≤ 30720
 unfolding whyIn parsedText refusedText

@@ -19,6 +19,7 @@ use Rattle.rooms.specs.Rooms.{pairRoom, mapRoom, txRoom, fresh}
 use Rattle.reasons.specs.Reasons.{refusedLine}
 use Rattle.stop_lines.specs.Stops.{stopped, stopLine}
 use Rattle.lock_lines.specs.Lines.{headLine, inputLine, verdict}
+use Rattle.heed_lines.specs.Heeds.{heedOf, heedLine}
 
 -- the height that input number i asks for, as its lookup answers
 unfoldable pub heightAsked : List ℕ → List ℕ → List ℕ → Psbt → ℕ → Numbered
@@ -37,11 +38,11 @@ inputsText h t i (suc n) = inputLine i (h i) (t i) ++ inputsText h t (i + 1) n
 unfoldable pub answered : TxOut → UnsignedTx
 answered (txOut x B) = x
 
--- the text of an accepted file: its head, its inputs, and the verdict by `lockDecided` and the transaction in the room B
+-- the text of an accepted file: its head, its inputs, the verdict by `lockDecided` and the transaction in the room B, and whether the network heeds that lock
 unfoldable pub acceptedText : List ℕ → List ℕ → List ℕ → Psbt → List ℕ → List ℕ
 acceptedText f P M s B =
     headLine (s .inputs) (s .«fallback_locktime») ++ (inputsText (heightAsked f P M s) (timeAsked f P M s) 0 (s .inputs)
-    ++ verdict (lockDecided (view f P M s) s) (answered (unsignedTx (view f P M s) s fresh [] B)))
+    ++ (verdict (lockDecided (view f P M s) s) (answered (unsignedTx (view f P M s) s fresh [] B)) ++ heedLine (lockDecided (view f P M s) s) (heedOf f P M s)))
 
 -- the text of a refused file: what the refusal means, and where the parse stopped
 unfoldable pub refusedText : List ℕ → List ℕ → List ℕ → PsbtError → ℕ → ℕ → List ℕ

@@ -1,8 +1,11 @@
-// The text that `why` prints of a file: what its inputs ask of the lock, what decided it, and whether a transaction is given.
+// The text that `why` prints of a file: what its inputs ask of the lock, what decided it, whether a transaction is given, and whether the network
+// heeds the lock; of a refused file what refused it, and where.
 use format::Parsed;
 use format::Psbt;
 use format::PsbtError;
 use format::State;
+use heed_lines::heed_of;
+use heed_lines::put_heed;
 use lock_lines::put_head;
 use lock_lines::put_input;
 use lock_lines::put_verdict;
@@ -64,7 +67,9 @@ fn put_accepted(
     };
     let x = unsigned_tx::unsigned_tx(file, pairs, maps, psbt, fresh, &file[..0], tx);
     let lock = lock::lock_decided(file, pairs, maps, psbt);
-    put_verdict(out, to, lock, x)
+    let to = put_verdict(out, to, lock, x);
+    let heed = heed_of(file, pairs, maps, psbt);
+    put_heed(out, to, lock, heed)
 }
 
 // The text of a refused file: what the refusal means, and where the parse stopped.
