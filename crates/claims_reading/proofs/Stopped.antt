@@ -9,7 +9,8 @@ use lib.ListN.{length, take, drop, set, length-append, take-append-drop}
 use lib.Seq.{sets, length-sets, sets-eq, take-at, take-take, take-set-le}
 use Rattle.format.specs.Keys.{same}
 use Rattle.format.specs.Content.{Pair, Map, magic, mapBytes, mapsBytes}
-use Rattle.format.specs.Reading.{limit, FieldRule, Mapped, ends, stops, mapped, Reading, done, refusal, begins, pair, ended, pairEvents, mapEvents, two, globalThen, eventsOf, events}
+use Rattle.format.specs.Reading.{limit, Mapped, ends, stops, mapped, Reading, done, refusal, begins, pair, ended, pairEvents, mapEvents}
+use Rattle.format.specs.Reading.{two, globalThen, eventsOf, events}
 use Rattle.format.specs.Entries.{pairWords, mapWords, hasRoom, pairEntryWords, mapEntryWords, putPair, putMap, pairEntries, mapEntries, entryOf, width}
 use Rattle.format.specs.Tables.{View, shows, Held, heldBy, viewOf}
 use Rattle.format.specs.Parse.{ParseOut, out, cut, parsed}
@@ -56,7 +57,8 @@ cut-keeps (refusal e) at p m i P M = (refl, refl)
 cut-keeps (begins r) at p m i P M = pick-by (Keeps p m P M) (hasRoom mapWords m M) _ _ (λ h. cut-keeps r at p m i P M) (λ h. (refl, refl))
 cut-keeps (pair q r) at p m i P M =
     pick-by (Keeps p m P M) (hasRoom pairWords p P) _ _
-    (λ h. let P₁ = putPair P p (entryOf at q) in pair-keeps p m P M (entryOf at q) (cut (at + width q) (p + 1) m i P₁ M r) (cut-keeps r (at + width q) (p + 1) m i P₁ M))
+    (λ h. let P₁ = putPair P p (entryOf at q) in
+    pair-keeps p m P M (entryOf at q) (cut (at + width q) (p + 1) m i P₁ M r) (cut-keeps r (at + width q) (p + 1) m i P₁ M))
     (λ h. (refl, refl))
 cut-keeps (ended a r) at p m i P M =
     let e : MapEntry = record { first = i; count = p - i } in
@@ -118,9 +120,10 @@ module _ (f : List ℕ) (g : Map) (s P M : List ℕ) (t : Reading) (here : drop 
   pairs-written : take ((0 + length (g .pairs)) * pairWords) (sets P (0 * pairWords) written) ≡ written
   unfolding onto
   pairs-written =
-      let l : length (entries (length magic) (g .pairs)) * pairWords ≤ length P = rw length-entries pairs-in in
-      let k : length written ≡ (0 + length (g .pairs)) * pairWords = length-joined pairEntryWords pairWords pair-wide (entries (length magic) (g .pairs)) ∙ rw (length-entries, zero-add) in
-      ap (take ((0 + length (g .pairs)) * pairWords)) (onto-is pairEntryWords pairWords pair-wide P (entries (length magic) (g .pairs)) l) ∙ take-at written (drop (length written) P) _ k
+      let es = entries (length magic) (g .pairs) in
+      let l : length es * pairWords ≤ length P = rw length-entries pairs-in in
+      let k : length written ≡ (0 + length (g .pairs)) * pairWords = length-joined pairEntryWords pairWords pair-wide es ∙ rw (length-entries, zero-add) in
+      ap (take ((0 + length (g .pairs)) * pairWords)) (onto-is pairEntryWords pairWords pair-wide P es l) ∙ take-at written (drop (length written) P) _ k
 
   map-written : take (1 * mapWords) (putMap M 0 entry) ≡ joined mapEntryWords (runs 0 (g ∷ []))
   unfolding onto putMap joined mapEntryWords runs
@@ -141,7 +144,8 @@ module _ (f : List ℕ) (g : Map) (s P M : List ℕ) (t : Reading) (here : drop 
       let P₁ = sets P (0 * pairWords) written in
       let M₁ = putMap M 0 entry in
       rw (has-room mapWords 0 0 M (omega arith))
-      (ap (View0 f) (cut-pairs (g .pairs) (length magic) 0 0 0 P M (ended (g .end) t) (omega arith)) ∙ left-by (cut next n 1 n P₁ M₁ t) (cut-keeps t next n 1 n P₁ M₁))
+      (ap (View0 f) (cut-pairs (g .pairs) (length magic) 0 0 0 P M (ended (g .end) t) (omega arith))
+      ∙ left-by (cut next n 1 n P₁ M₁ t) (cut-keeps t next n 1 n P₁ M₁))
 
 -- the global map of a reading in which a map ended
 abbrev Shows : List ℕ → List ℕ → List ℕ → Reading → Type 0
@@ -154,7 +158,8 @@ mapped-shows f P M (ends ps a s) h n q r =
     let g : Map = record { pairs = ps; end = a } in
     let t = globalThen two g s in
     let p = pairs-passed# ps (ended a t) in
-    left-shows f g s P M t (sym (h .0)) (h .1 .framed, h .1 .rises) (omega (arith, r .pairs)) (omega (arith, r .maps)) ∙ ap (λ (l : List Pair). shows (map bare l)) (sym (global-pairs ps a t))
+    left-shows f g s P M t (sym (h .0)) (h .1 .framed, h .1 .rises) (omega (arith, r .pairs)) (omega (arith, r .maps))
+    ∙ ap (λ (l : List Pair). shows (map bare l)) (sym (global-pairs ps a t))
 
 none-shows : (f P M : List ℕ) (e : PsbtError) → Shows f P M (refusal e)
 unfolding ended#
@@ -164,7 +169,8 @@ events-show : (f P M : List ℕ) → Shows f P M (events f)
 unfolding events eventsOf mapped
 events-show f P M =
     pick-by (Shows f P M) (leb (length f) limit) _ _
-    (λ l. pick-by (Shows f P M) (same (take 5 f) magic) _ _ (λ t. mapped-shows f P M _ (items-is _ (two .global) [] (drop 5 f))) (λ t. none-shows f P M InvalidMagic))
+    (λ l. pick-by (Shows f P M) (same (take 5 f) magic) _ _
+    (λ t. mapped-shows f P M _ (items-is _ (two .global) [] (drop 5 f))) (λ t. none-shows f P M InvalidMagic))
     (λ l. none-shows f P M TooLong)
 
 pub global-shown : (f P M P′ M′ : List ℕ) (x : Parsed) (n : ℕ) → parsed f P M ≡ out x P′ M′ → Roomy (events f) P M → ended# (events f) ≡ suc n

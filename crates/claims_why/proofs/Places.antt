@@ -60,7 +60,8 @@ passed-cut (begins r) (suc o) at p m i P M h a b e l = absurd h
 passed-cut (pair q r) o at p m i P M h a b e l =
     let n : p + 1 - i ≡ suc (p - i) = omega arith in
     rw (has-room pairWords p (pairs# r) P a)
-    (passed-cut r o (at + width q) (p + 1) m i (putPair P p (entryOf at q)) M h (rw length-putPair (omega arith)) b e (omega arith) ∙ ap (λ (k : ℕ). passing k r) n)
+    (passed-cut r o (at + width q) (p + 1) m i (putPair P p (entryOf at q)) M h (rw length-putPair (omega arith)) b e (omega arith)
+    ∙ ap (λ (k : ℕ). passing k r) n)
 passed-cut (ended x r) zero at p m i P M h a b e l = absurd h
 passed-cut (ended x r) (suc o) at p m i P M h a b e l =
     let t : MapEntry = record { first = i; count = p - i } in
@@ -79,7 +80,9 @@ module _ (f P M P′ M′ : List ℕ) (e : PsbtError) (p m : ℕ) (q : parsed f 
 
   pairs-told : pairsPassed M′ p m ≡ passing 0 (events f)
   unfolding parsed passedBy pairsBefore
-  pairs-told = ap passedBy (sym q) ∙ passed-cut (events f) 0 (length magic) 0 0 0 P M (events-orderly f) (omega (arith, room .pairs)) (omega (arith, room .maps)) refl (omega arith)
+  pairs-told =
+      ap passedBy (sym q)
+      ∙ passed-cut (events f) 0 (length magic) 0 0 0 P M (events-orderly f) (omega (arith, room .pairs)) (omega (arith, room .maps)) refl (omega arith)
 
   place-told : m ≡ ended# (events f) → stopped f P′ M′ e p m ≡ placeIn e (events f)
   unfolding stopped placeIn placeAt inMap

@@ -168,7 +168,8 @@ unfolding stopped
 stopped-is f P M e p m k ins outs r a b c w = w ∙ rw (a, b, c)
 
 -- the line
-pub after-one : (s t₁ t₂ t₃ : Spot) (k : ℕ) → k ≡ 1 → t₁ ≡ lay s (say ", after ") → t₂ ≡ lay t₁ (decimal k) → t₃ ≡ lay t₂ (say " pair\n") → t₃ ≡ lay s (afterPairs k)
+pub after-one : (s t₁ t₂ t₃ : Spot) (k : ℕ) → k ≡ 1 → t₁ ≡ lay s (say ", after ") → t₂ ≡ lay t₁ (decimal k) → t₃ ≡ lay t₂ (say " pair\n")
+    → t₃ ≡ lay s (afterPairs k)
 unfolding afterPairs
 after-one s t₁ t₂ t₃ k h a b c = chain3 s t₁ t₂ t₃ _ _ _ _ a b c (rw (eq-eqb k 1 h))
 

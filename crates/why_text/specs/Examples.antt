@@ -19,7 +19,7 @@ use Rattle.why_text.specs.Why.{heightAsked, timeAsked, inputsText, answe
 
 -- all that a text is made of
 unfoldable pub prints : List ℕ → List ℕ
-unfolding computes stops heldInput place lengthFits ofLength asked numberAt partField numberField requiredHeightLocktime requiredTimeLocktime lockBy lockDecided digit decimalIn decimal leap yearLength isShort monthLength yearFrom yearOf monthFrom monthOf twoDigits ymdText monthText dayText hourText dateText zeros meaning refusedLine heightNumber timeNumber lockText fallbackText headLine heightText timeText inputLine lackText txLine outcome fallbackDecided heightDecided timeDecided bothLine tooGreatLine tooSmallLine malformedLine verdict heightAsked timeAsked inputsText answered acceptedText refusedText parsedText whyIn why
+unfolding computes heldInput place lengthFits ofLength asked numberAt partField numberField requiredHeightLocktime requiredTimeLocktime lockBy lockDecided digit decimalIn decimal leap yearLength isShort monthLength yearFrom yearOf monthFrom monthOf twoDigits ymdText monthText dayText hourText dateText zeros meaning refusedLine heightNumber timeNumber lockText fallbackText headLine heightText timeText inputLine lackText txLine outcome fallbackDecided heightDecided timeDecided bothLine tooGreatLine tooSmallLine malformedLine verdict heightAsked timeAsked inputsText answered acceptedText parsedText whyIn why
 prints = why
 
 -- the text of F
@@ -72,7 +72,12 @@ why-height = refl
 abbrev pub textTwice : List ℕ
 textTwice = lines (say "refused 5: a key stands twice" ∷ say "stopped in input 0, after 2 pairs" ∷ [])
 
+-- all that the text of a refused file is made of besides
+unfoldable pub printsRefused : List ℕ → List ℕ
+unfolding prints stops refusedText
+printsRefused = why
+
 -- so it prints: refused, in input 0
 pub why-twice : why (fileFWith [] outputIndex script) ≡ textTwice
-unfolding prints
+unfolding printsRefused
 why-twice = refl
