@@ -185,7 +185,8 @@ module _ (Q : Set) (has : Later Q) where
     items-of zero last s = has .eof
     items-of (suc n) last s = turn-of Q (items n ρ) (λ l t. items-of n l t) (item ρ last s) (item-of last s)
 
-    maps-orderly : (n : ℕ) (s : List ℕ) (j : List Map → List ℕ → Reading) → ((ms : List Map) (r : List ℕ) → OrderlyBy Q 0 (j ms r)) → OrderlyBy Q 0 (mapsEvents ρ n s j)
+    maps-orderly : (n : ℕ) (s : List ℕ) (j : List Map → List ℕ → Reading) → ((ms : List Map) (r : List ℕ) → OrderlyBy Q 0 (j ms r))
+        → OrderlyBy Q 0 (mapsEvents ρ n s j)
     unfolding mapsEvents mapped
     maps-orderly zero s j h = h [] s
     maps-orderly (suc n) s j h =
@@ -208,7 +209,8 @@ module _ (Q : Set) (has : Early Q) where
   unfolding bareRule
   bare-of t v =
       pick-by (RuledOf Q) (eqb t 0x00) _ _ (λ q. has .version)
-      (λ q. pick-by (RuledOf Q) (eqb t 0x04 || eqb t 0x05) _ _ (λ w. count-of Q (count v) (count-refused Q (has .later .eof) (has .later .compact) v)) (λ w. tt))
+      (λ q. pick-by (RuledOf Q) (eqb t 0x04 || eqb t 0x05) _ _
+      (λ w. count-of Q (count v) (count-refused Q (has .later .eof) (has .later .compact) v)) (λ w. tt))
 
   global-orderly : (g : Map) (r : List ℕ) → OrderlyBy Q 0 (globalThen two g r)
   unfolding globalThen

@@ -6,14 +6,14 @@ use Prim.Native.Nat.{ℕ, suc, _+_, _-_, _*_, _≤_}
 use native.Mathlib.Nat.{zero-add}
 use native.Mathlib.Omega.{arith}
 use lib.Dec.{leb}
-use lib.ListN.{length, take, drop, set, length-append, take-append-drop}
-use lib.Seq.{sets, length-sets, sets-eq, take-at, take-take, take-set-le}
+use lib.ListN.{length, take, drop, set, take-append-drop}
+use lib.Seq.{sets, take-at, take-take, take-set-le}
 use Rattle.format.specs.Keys.{same}
 use Rattle.format.specs.Content.{Pair, Map, magic, mapBytes, mapsBytes, globalRule}
 use Rattle.format.specs.Reading.{limit, Mapped, ends, stops, mapped, Reading, done, refusal, begins, pair, ended, pairEvents, mapEvents}
 use Rattle.format.specs.Reading.{unless, two, globalThen, eventsOf, events, refused, outcome, reading}
 use Rattle.format.specs.Entries.{pairWords, mapWords, hasRoom, pairEntryWords, mapEntryWords, putPair, putMap, pairEntries, mapEntries, entryOf, width}
-use Rattle.format.specs.Tables.{View, shows, Held, heldBy, viewOf}
+use Rattle.format.specs.Tables.{View, shows, heldBy, viewOf}
 use Rattle.format.specs.Parse.{ParseOut, out, cut, parsed}
 use Rattle.format.specs.declared.PsbtError.{PsbtError}
 use Rattle.format.specs.declared.PsbtError.the-variants.{InvalidMagic, TooLong}
@@ -25,13 +25,13 @@ use Rattle.format.specs.declared.Ruled.the-variants.{Passed}
 use Rattle.format.specs.declared.Ruled.the-variants as R
 use Rattle.format.proofs.Tests.{pick-by}
 use Rattle.claims_reading.specs.Rooms.{pairs#, begun#, ended#, Roomy}
-use Rattle.claims_reading.specs.Shown.{bare, viewBy, behind, entries, mapsEntries, entriesBy, runs, joined, onto}
+use Rattle.claims_reading.specs.Shown.{bare, viewBy, behind, entries, mapsEntries, runs, joined, onto}
 use Rattle.claims_reading.specs.Stopped.{globalPairs}
 use Rattle.claims_reading.proofs.Files.{MappedIs, items-is, pairs-outcome}
 use Rattle.claims_reading.proofs.Orderly.{Set, OrderlyBy, Later, Early, behind-orderly, read-orderly}
 use Rattle.claims_reading.proofs.Rooms.{has-room, refused-of}
 use Rattle.claims_reading.proofs.Parsed.{length-joined, onto-is, pair-wide, map-wide, length-entries, cut-pairs}
-use Rattle.claims_reading.proofs.Shown.{pair-entries, map-entries, Good, good-map, held-here, view-here}
+use Rattle.claims_reading.proofs.Shown.{pair-entries, map-entries, Good, held-here, view-here}
 
 -- what is written behind n words leaves them
 take-sets : (n i : ℕ) (t ws : List ℕ) → n ≤ i → take n (sets t i ws) ≡ take n t
