@@ -78,7 +78,7 @@ events-of v c h =
     (maps-events (v .input) (c .ins) (mapsBytes (c .outs) []) _ (h .ins) ∙ ap (mapsTrace (c .ins))
     (maps-events (v .output) (c .outs) [] _ (h .outs) ∙ ap (mapsTrace (c .outs)) (rw (h .late))) ∙ sym (trace-append (c .ins) (c .outs) (done c))))
 
-pairs-outcome : (ps : List Pair) (t : Reading) → outcome (pairEvents ps t) ≡ outcome t
+pub pairs-outcome : (ps : List Pair) (t : Reading) → outcome (pairEvents ps t) ≡ outcome t
 unfolding outcome pairEvents
 pairs-outcome [] t = refl
 pairs-outcome (p ∷ ps) t = pairs-outcome ps t

@@ -1,5 +1,5 @@
 -- With room for all its pairs and maps a file's parse answers its verdict, and never that a table is full.
-use mathlib.Core.Path.{_≡_, refl, sym, _∙_, ap, ap₂}
+use mathlib.Core.Path.{_≡_, refl, sym, _∙_, ap, ap₂, subst}
 use mathlib.Core.Bool.{true}
 use mathlib.Core.List.{List}
 use Prim.Native.Nat.{ℕ, zero, suc, _+_, _-_, _*_, _≤_}
@@ -22,7 +22,7 @@ use Rattle.format.proofs.Entries.{length-putPair, length-putMap}
 use Rattle.format.proofs.Tests.{pick-by, never-true}
 use Rattle.claims_reading.specs.Given.{given, ofFile}
 use Rattle.claims_reading.specs.Rooms.{pairs#, begun#, ended#, Roomy, answer, answerOf}
-use Rattle.claims_reading.proofs.Orderly.{Orderly, events-orderly}
+use Rattle.claims_reading.proofs.Orderly.{Set, OrderlyBy, Orderly, events-orderly}
 
 pub has-room : (w n k : ℕ) (t : List ℕ) → (n + suc k) * w ≤ length t → hasRoom w n t ≡ true
 unfolding hasRoom
@@ -73,20 +73,21 @@ pub room-refuses : (f P M : List ℕ) (e : PsbtError) → reading f ≡ refused 
 unfolding answerOf
 room-refuses f P M e q h = room-answers f P M h ∙ ap (λ (v : Verdict). answerOf v (pairs# (events f)) (ended# (events f))) q
 
--- what a reading refuses is a file's fault
-refused-of : (r : Reading) (o : ℕ) (e : PsbtError) → Orderly o r → outcome r ≡ refused e → ofFile e ≡ true
+-- what a reading refuses is one of its set
+pub refused-of : (Q : Set) (r : Reading) (o : ℕ) (e : PsbtError) → OrderlyBy Q o r → outcome r ≡ refused e → Q e
 unfolding outcome
-refused-of (done d) o e h q = let z : _≡_ {A = ℕ} 0 1 = cc in absurd (omega arith)
-refused-of (refusal x) o e h q = let y : x ≡ e = cc in rw y at h
-refused-of (begins r) zero e h q = refused-of r 1 e h q
-refused-of (begins r) (suc o) e h q = absurd h
-refused-of (pair p r) o e h q = refused-of r o e h q
-refused-of (ended a r) zero e h q = absurd h
-refused-of (ended a r) (suc o) e h q = refused-of r o e h q
+refused-of Q (done d) o e h q = let z : _≡_ {A = ℕ} 0 1 = cc in absurd (omega arith)
+refused-of Q (refusal x) o e h q = let y : x ≡ e = cc in subst Q y h
+refused-of Q (begins r) zero e h q = refused-of Q r 1 e h q
+refused-of Q (begins r) (suc o) e h q = absurd h
+refused-of Q (pair p r) o e h q = refused-of Q r o e h q
+refused-of Q (ended a r) zero e h q = absurd h
+refused-of Q (ended a r) (suc o) e h q = refused-of Q r o e h q
 
+-- so it is a file's fault
 pub reading-gives : (f : List ℕ) (e : PsbtError) → reading f ≡ refused e → ofFile e ≡ true
 unfolding reading
-reading-gives f e q = refused-of (events f) 0 e (events-orderly f) q
+reading-gives f e q = refused-of (λ x. ofFile x ≡ true) (events f) 0 e (events-orderly f) q
 
 pub never-full : (f P M : List ℕ) (e : PsbtError) (p m : ℕ)
     → Roomy (events f) P M → answer (parsed f P M) ≡ Refused e p m → (e ≡ PairsFull → ⊥) × (e ≡ MapsFull → ⊥)

@@ -174,7 +174,7 @@ file-here : (f : List ℕ) (c : Content) → bytes c ≡ f → drop (length magi
 unfolding bytes mapsOf mapsBytes
 file-here f c e = ap (drop (length magic)) (sym e) ∙ ap (mapBytes (c .global)) (sym (mapsBytes-append (c .ins) (c .outs) []))
 
-pub good-map : (ρ : FieldRule) (m : Map) → FineMap ρ m → Good m
+good-map : (ρ : FieldRule) (m : Map) → FineMap ρ m → Good m
 good-map ρ m h = (h .pairs .framed, h .pairs .rises)
 
 good-maps : (ρ : FieldRule) (ms ns : List Map) → All (FineMap ρ) ms → All Good ns → All Good (ms ++ ns)

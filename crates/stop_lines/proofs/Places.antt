@@ -4,9 +4,9 @@ use mathlib.Core.Bool.{Bool, true, false}
 use mathlib.Core.List.{List, []}
 use Prim.Native.Nat.{ℕ, zero, suc, _+_, _-_, _*_, _≤_, _<_}
 use native.Mathlib.Omega.{arith}
-use borrow.Author.Tests.{lt-ltb, le-ltb, eq-eqb, ne-eqb}
+use borrow.Author.Tests.{lt-ltb, eq-eqb, ne-eqb}
 use lib.Dec.{eqb}
-use lib.ListN.{length, getD, List·getD-eq-default}
+use lib.ListN.{getD, List·getD-eq-default}
 use mir.Syntax.{w32, w64}
 use mir.Val.{Fits}
 use Rattle.format.specs.Refusals.{numberOf}
@@ -168,7 +168,8 @@ unfolding stopped
 stopped-is f P M e p m k ins outs r a b c w = w ∙ rw (a, b, c)
 
 -- the line
-pub after-one : (s t₁ t₂ t₃ : Spot) (k : ℕ) → k ≡ 1 → t₁ ≡ lay s (say ", after ") → t₂ ≡ lay t₁ (decimal k) → t₃ ≡ lay t₂ (say " pair\n") → t₃ ≡ lay s (afterPairs k)
+pub after-one : (s t₁ t₂ t₃ : Spot) (k : ℕ) → k ≡ 1 → t₁ ≡ lay s (say ", after ") → t₂ ≡ lay t₁ (decimal k) → t₃ ≡ lay t₂ (say " pair\n")
+    → t₃ ≡ lay s (afterPairs k)
 unfolding afterPairs
 after-one s t₁ t₂ t₃ k h a b c = chain3 s t₁ t₂ t₃ _ _ _ _ a b c (rw (eq-eqb k 1 h))
 

@@ -15,7 +15,8 @@ use Rattle.stop_lines.specs.declared.Place.the-variants.{Nowhere, Global
 after-most : (k : ℕ) → length (afterPairs k) ≤ 35
 unfolding afterPairs
 after-most k =
-    let w : length (pick (eqb k 1) (say " pair\n") (say " pairs\n")) ≤ 7 = pick-by (λ (l : List ℕ). length l ≤ 7) (eqb k 1) _ _ (λ h. omega arith) (λ h. omega arith) in
+    let w : length (pick (eqb k 1) (say " pair\n") (say " pairs\n")) ≤ 7 =
+    pick-by (λ (l : List ℕ). length l ≤ 7) (eqb k 1) _ _ (λ h. omega arith) (λ h. omega arith) in
     simp length-append (omega (arith, decimal-most k))
 
 pub stop-most : (x : Place) → length (stopLine x) ≤ 73

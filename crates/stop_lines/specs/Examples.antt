@@ -6,8 +6,10 @@ use lib.ListN.{replicate, take}
 use Rattle.format.specs.Content.{magic}
 use Rattle.format.specs.Entries.{pairWords, mapWords}
 use Rattle.format.specs.Parse.{ParseOut, out, parsed}
-use Rattle.format.specs.ExampleFiles.{txVersion, inputCount, outputCount, version, end, txid, outputIndex, amount, script, label, globals, fileE, fileF, fileFWith}
+use Rattle.format.specs.ExampleFiles.{txVersion, inputCount, outputCount, version, end, txid, outputIndex, amount, script, label}
+use Rattle.format.specs.ExampleFiles.{globals, fileE, fileF, fileFWith}
 use Rattle.format.specs.Computed.{computes}
+use Rattle.format.specs.declared.PsbtError.{PsbtError}
 use Rattle.format.specs.declared.PsbtError.the-variants.{TooLong}
 use Rattle.format.specs.declared.Parsed.the-variants.{Accepted, Refused}
 use Rattle.entries.specs.Words.{mapAt}
@@ -15,6 +17,7 @@ use Rattle.claims_reading.specs.Found.{findIn}
 use Rattle.text.specs.Say.{say}
 use Rattle.text.specs.Spelled.{digit, decimalIn, decimal}
 use Rattle.stop_lines.specs.Stops.{oneOf, behindGlobal, inMap, placeAt, pairsBefore, pairsPassed, globalShown, countShown, stopped, afterPairs, stopLine}
+use Rattle.stop_lines.specs.declared.Place.{Place}
 
 -- the line of a parse, none where it is accepted
 unfoldable pub stopOf : List ℕ → ParseOut → List ℕ
@@ -25,9 +28,14 @@ stopOf f (out (Accepted s p m) P M) = []
 unfoldable pub stopIn : ℕ → ℕ → List ℕ → List ℕ
 stopIn p m f = stopOf f (parsed f (replicate (p * pairWords) 7) (replicate (m * mapWords) 7))
 
+-- all that a place is made of
+unfoldable pub halts : List ℕ → List ℕ → List ℕ → PsbtError → ℕ → ℕ → Place
+unfolding computes mapAt findIn oneOf behindGlobal inMap placeAt pairsBefore pairsPassed globalShown countShown stopped
+halts = stopped
+
 -- all that a line is made of
 unfoldable pub stops : ℕ → ℕ → List ℕ → List ℕ
-unfolding computes mapAt findIn digit decimalIn decimal oneOf behindGlobal inMap placeAt pairsBefore pairsPassed globalShown countShown stopped afterPairs stopLine stopOf stopIn
+unfolding halts digit decimalIn decimal afterPairs stopLine stopOf stopIn
 stops = stopIn
 
 -- a global map that counts n inputs and m outputs and has the version x

@@ -170,7 +170,8 @@ pub fn put_stop(
     p: usize,
     m: usize,
 ) -> usize
-    ensures { λ r. ⌜ spot r (now (out .exit)) ≡ lay (spot at (now (out .entry))) (stopLine (stopped (now (file .entry)) (now (pairs .entry)) (now (maps .entry)) e p m)) ⌝ }
+    ensures { λ r. ⌜ spot r (now (out .exit)) ≡ lay (spot at (now (out .entry)))
+        (stopLine (stopped (now (file .entry)) (now (pairs .entry)) (now (maps .entry)) e p m)) ⌝ }
 {
     put_place(out, at, stopped(file, pairs, maps, e, p, m))
 }

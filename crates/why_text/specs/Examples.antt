@@ -50,7 +50,7 @@ heeds = heedLine
 
 -- all that a text is made of
 unfoldable pub prints : List ℕ → List ℕ
-unfolding computes stops looksUp dates asks judges heeds lockBy lockDecided zeros meaning refusedLine answered acceptedText refusedText parsedText whyIn why
+unfolding computes looksUp dates asks judges heeds lockBy lockDecided zeros meaning refusedLine answered acceptedText parsedText whyIn why
 prints = why
 
 -- the text of F
@@ -104,9 +104,14 @@ why-height = refl
 abbrev pub textTwice : List ℕ
 textTwice = lines (say "refused 5: a key stands twice" ∷ say "stopped in input 0, after 2 pairs" ∷ [])
 
+-- all that the text of a refused file is made of besides
+unfoldable pub printsRefused : List ℕ → List ℕ
+unfolding prints stops refusedText
+printsRefused = why
+
 -- so it prints: refused, in input 0
 pub why-twice : why (fileFWith [] outputIndex script) ≡ textTwice
-unfolding prints
+unfolding printsRefused
 why-twice = refl
 
 -- an input's sequence

@@ -83,7 +83,8 @@ fn put_refusal(
     p: usize,
     m: usize,
 ) -> usize
-    ensures { λ r. ⌜ spot r (now (out .exit)) ≡ lay (spot at (now (out .entry))) (refusedText (now (file .entry)) (now (pairs .entry)) (now (maps .entry)) e p m) ⌝ }
+    ensures { λ r. ⌜ spot r (now (out .exit)) ≡ lay (spot at (now (out .entry)))
+        (refusedText (now (file .entry)) (now (pairs .entry)) (now (maps .entry)) e p m) ⌝ }
 {
     let to = put_refused(out, at, e);
     put_stop(out, to, file, pairs, maps, e, p, m)
