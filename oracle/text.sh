@@ -7,7 +7,7 @@
 #                             transactions; the seed `fixed` has the files by name, as many as there are
 #
 # PROGRAMS is the folder of the built programs, else target/bin of the repository (`rt check dump why` builds them). They are run under the
-# toolchain's loader, as ./run does. WITHOUT names lines that they don't print: "stopped", "heeded". Ends with 1 where a text differs.
+# toolchain's loader, as front/parts does. Ends with 1 where a text differs.
 set -eu
 export LC_ALL=C
 here=$(cd "$(dirname "$0")" && pwd -P)
@@ -19,12 +19,7 @@ trap 'rm -rf "$work"' EXIT
 failed=0
 
 # computed PROGRAM FILE..: the text of files
-computed() {
-  program=$1
-  shift
-  for line in ${WITHOUT:-}; do [ "$program" = dump ] || set -- --without "$line" "$@"; done
-  "$bin/text" "$program" "$@"
-}
+computed() { "$bin/text" "$@"; }
 
 # same NAME STORED: what was computed is what is stored
 same() {

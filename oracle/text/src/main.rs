@@ -2,9 +2,9 @@
 //! these give no wording, from the texts that are stored. What a file holds and asks the model says. No line of it comes from
 //! the Rattle code, and nothing is proved about it.
 //!
-//!     text dump FILE..                      the dumps of files, one behind the other
-//!     text why [--without LINE].. FILE..    what `why` says of them; LINE is `stopped` or `heeded`
-//!     text split FOLDER                     stores the files that records of standard input lend, as FOLDER/000001 and so on
+//!     text dump FILE..     the dumps of files, one behind the other
+//!     text why FILE..      what `why` says of them
+//!     text split FOLDER    stores the files that records of standard input lend, as FOLDER/000001 and so on
 
 mod dates;
 mod dump;
@@ -34,17 +34,8 @@ fn split(folder: &Path) -> io::Result<()> {
 
 fn main() -> io::Result<()> {
     let words: Vec<String> = std::env::args().skip(1).collect();
-    let usage = || Error::other("text dump FILE.. | text why [--without stopped|heeded].. FILE.. | text split FOLDER");
-    let (what, mut names) = words.split_first().ok_or_else(usage)?;
-    let mut lines = why::Lines { stopped: true, heeded: true };
-    while let ["--without", line] = names.iter().take(2).map(String::as_str).collect::<Vec<_>>()[..] {
-        match line {
-            "stopped" => lines.stopped = false,
-            "heeded" => lines.heeded = false,
-            _ => return Err(usage()),
-        }
-        names = &names[2..];
-    }
+    let usage = || Error::other("text dump FILE.. | text why FILE.. | text split FOLDER");
+    let (what, names) = words.split_first().ok_or_else(usage)?;
     if what == "split" {
         let [folder] = names else { return Err(usage()) };
         return split(Path::new(folder));
@@ -55,7 +46,7 @@ fn main() -> io::Result<()> {
         let file = File::read(bytes);
         let text = match what.as_str() {
             "dump" => dump::text(&file),
-            "why" => why::text(&file, &lines),
+            "why" => why::text(&file),
             _ => return Err(usage()),
         };
         to.write_all(text.as_bytes())?;

@@ -1,14 +1,8 @@
-//! Rules 66 to 71: the text of `why`.
+//! Rules 66 to 71 and 80 to 82: the text of `why`.
 
 use crate::dates::date;
 use crate::file::{File, Parsed};
 use model::transaction::Lock;
-
-/// Lines that may be left out.
-pub struct Lines {
-    pub stopped: bool,
-    pub heeded: bool,
-}
 
 const TIMES: u64 = 500_000_000;
 const SEQUENCE: u8 = 0x10;
@@ -124,13 +118,12 @@ fn transaction_line(file: &File) -> String {
     }
 }
 
-pub fn text(file: &File, lines: &Lines) -> String {
+pub fn text(file: &File) -> String {
     let refused = |number: u32| format!("refused {number}: {}", meaning(number));
     let said = match file.parsed {
         Parsed::TooLong => vec![refused(21)],
         Parsed::Refused { number, pairs, maps } => {
-            let stop = stopped(file, number, pairs, maps).filter(|_| lines.stopped);
-            [refused(number)].into_iter().chain(stop).collect()
+            [refused(number)].into_iter().chain(stopped(file, number, pairs, maps)).collect()
         }
         Parsed::Accepted => {
             let fallback = file.fallback().map_or("none".to_string(), as_read);
@@ -140,7 +133,7 @@ pub fn text(file: &File, lines: &Lines) -> String {
                 Err(field) => said.push(format!("{field}: refused 7")),
                 Ok((decided, lock)) => {
                     said.extend([decided, format!("lock {}", as_read(lock)), transaction_line(file)]);
-                    said.extend(heeded(file, lock).filter(|_| lines.heeded));
+                    said.extend(heeded(file, lock));
                 }
             }
             said
