@@ -14,6 +14,7 @@ fn dump_argument(i: usize) {
     libc::close(fd);
 }
 
+// The dumps of all that are named, in their order.
 fn main() {
     let count = os::arg_count();
     let mut i: usize = 1;

@@ -257,7 +257,9 @@ pub fn set_sp_output_scripts(
     state: State,
     scripts: &mut [u8],
 ) -> ScriptsSet
-    ensures { λ r. ⌜ toldLeft (toldSet r) (now (scripts .exit)) ≡ toldSetOut (setScripts (view (now (file .entry)) (now (pairs .entry)) (now (maps .entry)) psbt) psbt (whole (now (list .entry))) (now (buffer .entry)) state (now (scripts .entry))) ⌝ }
+    ensures { λ r. ⌜ toldLeft (toldSet r) (now (scripts .exit))
+        ≡ toldSetOut (setScripts (view (now (file .entry)) (now (pairs .entry)) (now (maps .entry)) psbt) psbt
+        (whole (now (list .entry))) (now (buffer .entry)) state (now (scripts .entry))) ⌝ }
 {
     let mut task = begin(file, pairs, maps, psbt, state);
     while is_going(task) {
@@ -278,7 +280,9 @@ pub fn set_two(
     state: State,
     scripts: &mut [u8],
 ) -> ScriptsSet
-    ensures { λ r. ⌜ toldLeft (toldSet r) (now (scripts .exit)) ≡ toldSetOut (setScripts (view (now (file .entry)) (now (pairs .entry)) (now (maps .entry)) psbt) psbt (whole list) (now (buffer .entry)) state (now (scripts .entry))) ⌝ }
+    ensures { λ r. ⌜ toldLeft (toldSet r) (now (scripts .exit))
+        ≡ toldSetOut (setScripts (view (now (file .entry)) (now (pairs .entry)) (now (maps .entry)) psbt) psbt
+        (whole list) (now (buffer .entry)) state (now (scripts .entry))) ⌝ }
 {
     set_sp_output_scripts(file, pairs, maps, psbt, &list, buffer, state, scripts)
 }

@@ -14,6 +14,7 @@ fn why_argument(i: usize) {
     libc::close(fd);
 }
 
+// The texts of all that are named, in their order.
 fn main() {
     let count = os::arg_count();
     let mut i: usize = 1;

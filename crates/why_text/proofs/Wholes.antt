@@ -66,7 +66,8 @@ pub ruleset asking = (asks-first, asks-done, asks-more)
 -- the head, the inputs, the verdict, and what the network makes of it
 pub accepted-text : (s t₁ t₂ t₃ t₄ : Spot) (f P M : List ℕ) (x : Psbt) (B B′ : List ℕ) (a : UnsignedTx) (l : Lock) (h : Heed)
     → t₁ ≡ lay s (headLine (x .inputs) (x .«fallback_locktime»)) → t₂ ≡ lay t₁ (inputsText (heightAsked f P M x) (timeAsked f P M x) 0 (x .inputs))
-    → toldLeft (toldTx a) B′ ≡ toldTxOut (unsignedTx (view f P M x) x fresh [] B) → toldLock l ≡ toldLock (lockDecided (view f P M x) x) → t₃ ≡ lay t₂ (verdict l a)
+    → toldLeft (toldTx a) B′ ≡ toldTxOut (unsignedTx (view f P M x) x fresh [] B)
+    → toldLock l ≡ toldLock (lockDecided (view f P M x) x) → t₃ ≡ lay t₂ (verdict l a)
     → h ≡ heedOf f P M x → t₄ ≡ lay t₃ (heedLine l h)
     → t₄ ≡ lay s (acceptedText f P M x B)
 unfolding acceptedText answered toldTxOut

@@ -14,11 +14,14 @@ use Rattle.format.specs.declared.Lock.{Lock}
 use Rattle.format.specs.declared.UnsignedTx.{UnsignedTx}
 use Rattle.text.specs.Say.{say, lines}
 use Rattle.text.specs.Spelled.{digit, decimalIn, decimal}
-use Rattle.utc.specs.Dates.{leap, yearLength, isShort, monthLength, yearFrom, yearOf, monthFrom, monthOf, twoDigits, ymdText, monthText, dayText, hourText, dateText}
+use Rattle.utc.specs.Dates.{leap, yearLength, isShort, monthLength, yearFrom, yearOf, monthFrom, monthOf}
+use Rattle.utc.specs.Dates.{twoDigits, ymdText, monthText, dayText, hourText, dateText}
 use Rattle.rooms.specs.Rooms.{zeros}
 use Rattle.reasons.specs.Reasons.{meaning, refusedLine}
 use Rattle.stop_lines.specs.Examples.{stops}
-use Rattle.lock_lines.specs.Lines.{heightNumber, timeNumber, lockText, fallbackText, headLine, heightText, timeText, inputLine, lackText, txLine, outcome, fallbackDecided, heightDecided, timeDecided, bothLine, tooGreatLine, tooSmallLine, malformedLine, verdict}
+use Rattle.lock_lines.specs.Lines.{heightNumber, timeNumber, lockText, fallbackText, headLine, heightText, timeText}
+use Rattle.lock_lines.specs.Lines.{inputLine, lackText, txLine, outcome, fallbackDecided, heightDecided, timeDecided}
+use Rattle.lock_lines.specs.Lines.{bothLine, tooGreatLine, tooSmallLine, malformedLine, verdict}
 use Rattle.heed_lines.specs.declared.Heed.{Heed}
 use Rattle.heed_lines.specs.Heeds.{isFinal, heedFrom, sequenceOf, heedOf, heedText, numberDecided, heedLine}
 use Rattle.why_text.specs.Why.{heightAsked, timeAsked, inputsText, answered, acceptedText, refusedText, parsedText, whyIn, why}

@@ -33,7 +33,9 @@ fn put_inputs(
     maps: &[u32],
     psbt: Psbt,
 ) -> usize
-    ensures { λ r. ⌜ spot r (now (out .exit)) ≡ lay (spot at (now (out .entry))) (inputsText (heightAsked (now (file .entry)) (now (pairs .entry)) (now (maps .entry)) psbt) (timeAsked (now (file .entry)) (now (pairs .entry)) (now (maps .entry)) psbt) 0 (psbt .inputs)) ⌝ }
+    ensures { λ r. ⌜ spot r (now (out .exit))
+        ≡ lay (spot at (now (out .entry))) (inputsText (heightAsked (now (file .entry)) (now (pairs .entry)) (now (maps .entry)) psbt)
+        (timeAsked (now (file .entry)) (now (pairs .entry)) (now (maps .entry)) psbt) 0 (psbt .inputs)) ⌝ }
 {
     let mut to = at;
     let mut i: u64 = 0;
@@ -56,7 +58,8 @@ fn put_accepted(
     psbt: Psbt,
     tx: &mut [u8],
 ) -> usize
-    ensures { λ r. ⌜ spot r (now (out .exit)) ≡ lay (spot at (now (out .entry))) (acceptedText (now (file .entry)) (now (pairs .entry)) (now (maps .entry)) psbt (now (tx .entry))) ⌝ }
+    ensures { λ r. ⌜ spot r (now (out .exit))
+        ≡ lay (spot at (now (out .entry))) (acceptedText (now (file .entry)) (now (pairs .entry)) (now (maps .entry)) psbt (now (tx .entry))) ⌝ }
 {
     let fallback = psbt.fallback_locktime;
     let to = put_head(out, at, psbt.inputs, fallback);
@@ -99,7 +102,8 @@ fn put_parsed(
     maps: &mut [u32],
     tx: &mut [u8],
 ) -> usize
-    ensures { λ r. ⌜ spot r (now (out .exit)) ≡ lay (spot at (now (out .entry))) (whyIn (now (pairs .entry)) (now (maps .entry)) (now (tx .entry)) (now (file .entry))) ⌝ }
+    ensures { λ r. ⌜ spot r (now (out .exit))
+        ≡ lay (spot at (now (out .entry))) (whyIn (now (pairs .entry)) (now (maps .entry)) (now (tx .entry)) (now (file .entry))) ⌝ }
 {
     match psbt::parse(file, pairs, maps) {
         Parsed::Accepted {
