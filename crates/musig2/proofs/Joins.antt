@@ -123,7 +123,7 @@ musig-is t w f p a l h ok r e q = e ∙ rw q
 pub ruleset musigs = (musig-parts, musig-is)
 
 -- the tests of lengths
-pub leaf-none : (l : List ℕ) → length l ≡ 0 → true ≡ leafFits l
+pub leaf-none : (l : List ℕ) → length l ≡ 0 → eqb (length l) 0 ≡ leafFits l
 unfolding leafFits
 leaf-none l h = rw (eq-eqb (length l) 0 h)
 
@@ -135,7 +135,7 @@ pub key-right : (a l : List ℕ) (r : Bool) → length a ≡ 33 → r ≡ leafFi
 unfolding keyFits
 key-right a l r h e = rw (eq-eqb (length a) 33 h) e
 
-pub key-wrong : (a l : List ℕ) → (length a ≡ 33 → ⊥) → false ≡ keyFits a l
+pub key-wrong : (a l : List ℕ) → (length a ≡ 33 → ⊥) → eqb (length a) 33 ≡ keyFits a l
 unfolding keyFits
 key-wrong a l h = rw (ne-eqb (length a) 33 h)
 
@@ -143,7 +143,7 @@ pub musig-right : (p a l : List ℕ) (r : Bool) → length p ≡ 33 → r ≡ ke
 unfolding musigFits
 musig-right p a l r h e = rw (eq-eqb (length p) 33 h) e
 
-pub musig-wrong : (p a l : List ℕ) → (length p ≡ 33 → ⊥) → false ≡ musigFits p a l
+pub musig-wrong : (p a l : List ℕ) → (length p ≡ 33 → ⊥) → eqb (length p) 33 ≡ musigFits p a l
 unfolding musigFits
 musig-wrong p a l h = rw (ne-eqb (length p) 33 h)
 

@@ -2,6 +2,7 @@
 use fitness::Fit;
 use format::Looked;
 use format::Numbered;
+use format::PUBKEY_LEN;
 use format::PsbtError;
 use lookup::Wanted;
 ghost use mathlib.Core.Path.{_≡_};
@@ -17,37 +18,31 @@ ghost use Rattle.musig2.specs.Joined.{keyFits, musigFits, Joined, Parts}
 pub mod input;
 pub mod output;
 
-// A leaf hash has 32 bytes or is left out.
+// How many bytes a leaf hash has.
+const LEAF_LEN: usize = 32;
+
+// The longest key data: a participant, an aggregate key and a leaf hash.
+const KEY_LEN: usize = 98;
+
+// A leaf hash is whole or left out.
 fn leaf_fits(leaf: &[u8]) -> bool
     ensures { λ r. ⌜ r ≡ leafFits (now (leaf .entry)) ⌝ }
 {
-    if leaf.len() == 0 {
-        true
-    } else {
-        leaf.len() == 32
-    }
+    leaf.len() == 0 || leaf.len() == LEAF_LEN
 }
 
-// An aggregate key has 33 bytes, and its leaf hash fits.
+// An aggregate key is a public key, and its leaf hash fits.
 fn key_fits(aggregate: &[u8], leaf: &[u8]) -> bool
     ensures { λ r. ⌜ r ≡ keyFits (now (aggregate .entry)) (now (leaf .entry)) ⌝ }
 {
-    if aggregate.len() == 33 {
-        leaf_fits(leaf)
-    } else {
-        false
-    }
+    aggregate.len() == PUBKEY_LEN && leaf_fits(leaf)
 }
 
-// A participant has 33 bytes too.
+// A participant is a public key too.
 fn musig_fits(participant: &[u8], aggregate: &[u8], leaf: &[u8]) -> bool
     ensures { λ r. ⌜ r ≡ musigFits (now (participant .entry)) (now (aggregate .entry)) (now (leaf .entry)) ⌝ }
 {
-    if participant.len() == 33 {
-        key_fits(aggregate, leaf)
-    } else {
-        false
-    }
+    participant.len() == PUBKEY_LEN && key_fits(aggregate, leaf)
 }
 
 // A lookup by a key of three parts, put together in an array.
@@ -65,7 +60,7 @@ fn joined_lookup(
     ensures { λ r. ⌜ r ≡ asked true (lengthOf wanted) (now (file .entry)) (keyOf «key_type» (now (a .entry) ++ (now (b .entry) ++ now (c .entry))))
         (heldOf (now (pairs .entry)) fit) ⌝ }
 {
-    let mut key = [0u8; 98];
+    let mut key = [0u8; KEY_LEN];
     let n = a.len() + b.len();
     let e = n + c.len();
     writer::put_bytes(&mut key, 0, a);
@@ -133,7 +128,7 @@ fn participant_count(list: Looked) -> Numbered
     match list {
         Looked::Refused(e) => Numbered::Refused(e),
         Looked::Absent => Numbered::Absent,
-        Looked::At { start: _, len } => Numbered::Is((len / 33) as u64),
+        Looked::At { start: _, len } => Numbered::Is((len / PUBKEY_LEN) as u64),
     }
 }
 
@@ -146,10 +141,10 @@ fn nth_participant(file: &[u8], list: Looked, i: usize) -> Looked
         Looked::Refused(e) => Looked::Refused(e),
         Looked::Absent => Looked::Absent,
         Looked::At { start, len } => {
-            if i < len / 33 {
+            if i < len / PUBKEY_LEN {
                 Looked::At {
-                    start: start + 33 * i,
-                    len: 33,
+                    start: start + PUBKEY_LEN * i,
+                    len: PUBKEY_LEN,
                 }
             } else {
                 Looked::Refused(PsbtError::OutOfRange)

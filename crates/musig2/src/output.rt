@@ -4,6 +4,7 @@ use crate::participant_count;
 use format::Looked;
 use format::Numbered;
 use format::PSBT_OUT_MUSIG2_PARTICIPANT_PUBKEYS;
+use format::PUBKEY_LEN;
 use format::Psbt;
 use lookup::Wanted;
 ghost use mathlib.Core.Path.{_≡_};
@@ -24,7 +25,7 @@ pub fn get_musig2_participant_pubkeys(
         (heldOutput (now (file .entry)) (now (pairs .entry)) (now (maps .entry)) psbt i)) ⌝ }
 {
     let fit = fitness::fit_output(file, pairs, maps, psbt, i);
-    let ok = aggregate.len() == 33;
+    let ok = aggregate.len() == PUBKEY_LEN;
     lookup::asked(
         file,
         pairs,

@@ -1,9 +1,11 @@
 // Silent payments of the whole file, by scan key and as listings.
+use crate::PROOF_LEN;
 use crate::scan_lookup;
 use format::Listing;
 use format::Looked;
 use format::PSBT_GLOBAL_SP_DLEQ;
 use format::PSBT_GLOBAL_SP_ECDH_SHARE;
+use format::PUBKEY_LEN;
 use format::Psbt;
 ghost use mathlib.Core.Path.{_≡_};
 ghost use Rattle.format.specs.Tables.{held};
@@ -23,7 +25,14 @@ pub fn get_sp_ecdh_share(
         (held (now (file .entry)) (now (pairs .entry)) (now (maps .entry)) psbt 0)) ⌝ }
 {
     let fit = fitness::fit_map(file, pairs, maps, psbt, 0);
-    scan_lookup(file, pairs, fit, PSBT_GLOBAL_SP_ECDH_SHARE, 33, scan_key)
+    scan_lookup(
+        file,
+        pairs,
+        fit,
+        PSBT_GLOBAL_SP_ECDH_SHARE,
+        PUBKEY_LEN,
+        scan_key,
+    )
 }
 
 // The proof of a scan key.
@@ -38,7 +47,7 @@ pub fn get_sp_dleq_proof(
         (held (now (file .entry)) (now (pairs .entry)) (now (maps .entry)) psbt 0)) ⌝ }
 {
     let fit = fitness::fit_map(file, pairs, maps, psbt, 0);
-    scan_lookup(file, pairs, fit, PSBT_GLOBAL_SP_DLEQ, 64, scan_key)
+    scan_lookup(file, pairs, fit, PSBT_GLOBAL_SP_DLEQ, PROOF_LEN, scan_key)
 }
 
 // The pairs that hold shares.

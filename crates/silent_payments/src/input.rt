@@ -1,10 +1,12 @@
 // Silent payments of an input, by its own number: by scan key and as listings.
+use crate::PROOF_LEN;
 use crate::scan_lookup;
 use format::Listing;
 use format::Looked;
 use format::PSBT_IN_SP_DLEQ;
 use format::PSBT_IN_SP_ECDH_SHARE;
 use format::PSBT_IN_SP_SPEND_BIP32_DERIVATION;
+use format::PUBKEY_LEN;
 use format::Psbt;
 ghost use mathlib.Core.Path.{_≡_};
 ghost use Rattle.format.specs.Tables.{heldInput};
@@ -25,7 +27,14 @@ pub fn get_sp_ecdh_share(
         (heldInput (now (file .entry)) (now (pairs .entry)) (now (maps .entry)) psbt i)) ⌝ }
 {
     let fit = fitness::fit_input(file, pairs, maps, psbt, i);
-    scan_lookup(file, pairs, fit, PSBT_IN_SP_ECDH_SHARE, 33, scan_key)
+    scan_lookup(
+        file,
+        pairs,
+        fit,
+        PSBT_IN_SP_ECDH_SHARE,
+        PUBKEY_LEN,
+        scan_key,
+    )
 }
 
 // The proof of a scan key.
@@ -41,7 +50,7 @@ pub fn get_sp_dleq_proof(
         (heldInput (now (file .entry)) (now (pairs .entry)) (now (maps .entry)) psbt i)) ⌝ }
 {
     let fit = fitness::fit_input(file, pairs, maps, psbt, i);
-    scan_lookup(file, pairs, fit, PSBT_IN_SP_DLEQ, 64, scan_key)
+    scan_lookup(file, pairs, fit, PSBT_IN_SP_DLEQ, PROOF_LEN, scan_key)
 }
 
 // The pairs that hold shares.

@@ -1,6 +1,7 @@
 // Silent payments: what stands under a scan key, of the whole file and of an input.
 use fitness::Fit;
 use format::Looked;
+use format::PUBKEY_LEN;
 use lookup::Wanted;
 ghost use mathlib.Core.Path.{_≡_};
 ghost use Rattle.format.specs.Fields.{scanLookup};
@@ -9,7 +10,10 @@ ghost use Rattle.fitness.specs.Fits.{heldOf, Within};
 pub mod global;
 pub mod input;
 
-// A silent payment lookup asks a scan key of 33 bytes.
+// How many bytes a proof has.
+const PROOF_LEN: usize = 64;
+
+// A silent payment lookup asks a scan key, which is a public key.
 fn scan_lookup(
     file: &[u8],
     pairs: &[u32],
@@ -21,7 +25,7 @@ fn scan_lookup(
     requires { ⌜ Within (now pairs) fit ⌝ }
     ensures { λ r. ⌜ r ≡ scanLookup «key_type» width (now (file .entry)) (now («scan_key» .entry)) (heldOf (now (pairs .entry)) fit) ⌝ }
 {
-    let ok = scan_key.len() == 33;
+    let ok = scan_key.len() == PUBKEY_LEN;
     lookup::asked(
         file,
         pairs,

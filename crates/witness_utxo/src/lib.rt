@@ -9,22 +9,28 @@ ghost use Rattle.format.specs.Fields.{utxoOf, utxoBy, utxoPart, getWitnessUtxo}
 ghost use Rattle.format.specs.Told.{toldUtxo};
 ghost use Rattle.witness_utxo.specs.Placed.{Placed};
 
+// Where the script begins: behind 8 bytes of amount and one of length.
+const SCRIPT: usize = 9;
+
+// The longest script that one byte tells the length of.
+const LONGEST: usize = 0xfc;
+
 // A witness UTXO at `start`: 8 bytes of amount, one of length up to fc, exactly so many of script.
 fn utxo_at(start: usize, v: &[u8]) -> Utxo
     requires { ⌜ Placed start (now v) ⌝ }
     ensures { λ r. ⌜ r ≡ utxoOf start (now (v .entry)) ⌝ }
 {
-    if v.len() < 9 {
+    if v.len() < SCRIPT {
         return Utxo::Refused(PsbtError::BadValue);
     }
     let n = v[8] as usize;
-    if 0xfc < n {
+    if LONGEST < n {
         return Utxo::Refused(PsbtError::BadValue);
     }
-    if v.len() == 9 + n {
+    if v.len() == SCRIPT + n {
         Utxo::Is {
             amount: wire::u64_from_le_bytes(v),
-            start: start + 9,
+            start: start + SCRIPT,
             len: n,
         }
     } else {

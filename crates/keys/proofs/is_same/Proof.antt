@@ -1,9 +1,9 @@
--- `lookup::is_same` meets its contract.
+-- `keys::is_same` meets its contract.
 use borrow.Author.Needs.{needs}
 use Rattle.format.specs.Keys.{isSame}
-use Rattle.lookup.proofs.Finds.{same-by}
-use Rattle.lookup.proofs.is_same.Statement.{statement}
-use Rattle.lookup.proofs.is_same.Tie as tie
+use Rattle.keys.proofs.Orders.{same-by}
+use Rattle.keys.proofs.is_same.Statement.{statement}
+use Rattle.keys.proofs.is_same.Tie as tie
 
 -- needs: needs, same-by | isSame
 pub is-same-spec : {M : Type 1} → statement M

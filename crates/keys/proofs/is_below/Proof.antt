@@ -1,9 +1,9 @@
--- `fitness::is_below` meets its contract.
+-- `keys::is_below` meets its contract.
 use borrow.Author.Needs.{needs}
 use Rattle.format.specs.Keys.{isBelow}
-use Rattle.fitness.proofs.Parts.{below-by}
-use Rattle.fitness.proofs.is_below.Statement.{statement}
-use Rattle.fitness.proofs.is_below.Tie as tie
+use Rattle.keys.proofs.Orders.{below-by}
+use Rattle.keys.proofs.is_below.Statement.{statement}
+use Rattle.keys.proofs.is_below.Tie as tie
 
 -- needs: needs, below-by | isBelow
 pub is-below-spec : {M : Type 1} → statement M
