@@ -106,6 +106,7 @@ unfolding fieldAt field
 found-shows f P t m x e = ap (foundIn f) e ∙ place-shows f (keyOf t []) (entriesOf P m)
 
 -- the script of an output
-pub out-script : (f P M : List ℕ) (s : Psbt) (i : ℕ) (m : MapEntry) → m ≡ mapAt M (1 + s .inputs + i) → (x : Found) → x ≡ field 0x04 (map (shown f) (entriesOf P m)) → x ≡ (outAt f P M s i) .script
+pub out-script : (f P M : List ℕ) (s : Psbt) (i : ℕ) (m : MapEntry) → m ≡ mapAt M (1 + s .inputs + i) → (x : Found)
+    → x ≡ field 0x04 (map (shown f) (entriesOf P m)) → x ≡ (outAt f P M s i) .script
 unfolding outAt outOf pairsOf
 out-script f P M s i m e x q = rw e at q

@@ -53,7 +53,9 @@ module _ (f P M : List ℕ) (s : Psbt) (m : ℕ) (l : m < mapsReported s) where
   at-whole x e = by (ltb m (mapCount M)) refl
     where
       by : (b : Bool) → ltb m (mapCount M) ≡ b → Whole f P M m
-      by false q = never BadIndex x (map-missing f P M s m true (sym (lt-ltb m (mapsReported s) l)) (mapCount M) refl (ltb-false m (mapCount M) q) (Refused BadIndex) refl ∙ e)
+      by false q =
+          never BadIndex x (map-missing f P M s m true (sym (lt-ltb m (mapsReported s) l)) (mapCount M)
+          refl (ltb-false m (mapCount M) q) (Refused BadIndex) refl ∙ e)
       by true q =
           let k : m < mapCount M = ltb-true m (mapCount M) q in
           record {
@@ -66,7 +68,8 @@ module _ (f P M : List ℕ) (s : Psbt) (m : ℕ) (l : m < mapsReported s) where
   whole-at : Whole f P M m → view f P M s m ≡ shows (pairsOf f P M m)
   unfolding view viewOf pairsOf heldOf fitEntry
   whole-at w = ap (viewOf f) (sym (map-held f P M s m (Is (mapAt M m))
-      (map-there f P M s m true (sym (lt-ltb m (mapsReported s) l)) (mapCount M) refl refl (w .listed) (mapAt M m) refl (Is (mapAt M m)) (sym (rw (le-leb ((mapAt M m) .first + (mapAt M m) .count) (pairCount P) (w .usable .within), w .usable .fits))))))
+      (map-there f P M s m true (sym (lt-ltb m (mapsReported s) l)) (mapCount M) refl refl (w .listed) (mapAt M m) refl (Is (mapAt M m))
+      (sym (rw (le-leb ((mapAt M m) .first + (mapAt M m) .count) (pairCount P) (w .usable .within), w .usable .fits))))))
 
 -- what the maps from number m on say is what all say
 pub record Going (f P M : List ℕ) (s : Psbt) (m : ℕ) : Type 0 where
@@ -213,3 +216,8 @@ module _ (f P M : List ℕ) (s : Psbt) (k : AllFit f P M s) where
 
     pub output-usable : (m : MapEntry) → m ≡ mapAt M (1 + s .inputs + i) → Usable f P m
     output-usable m e = rw e (output-whole .usable)
+
+-- what a walk over inputs or outputs asks of the next map
+pub ruleset input-maps = (input-listed, input-usable)
+
+pub ruleset output-maps = (output-listed, output-usable)

@@ -111,11 +111,14 @@ module _ (f : List ℕ) (t w : ℕ) where
   field-walked [] = refl
   field-walked (e ∷ es) = by (field-walked es) (same (keyOf t []) (keyIn f e))
     where
-      by : fieldFrom f t w S.Missing es ≡ sizedAt w (foundAt (place f (keyOf t []) es)) → (b : Bool) → fieldFrom f t w (pick b (sizedAt w (F.At (e .value) (e .vlen))) S.Missing) es ≡ sizedAt w (foundAt (pick b (K.At (e .value) (e .vlen)) (place f (keyOf t []) es)))
+      by : fieldFrom f t w S.Missing es ≡ sizedAt w (foundAt (place f (keyOf t []) es)) → (b : Bool)
+          → fieldFrom f t w (pick b (sizedAt w (F.At (e .value) (e .vlen))) S.Missing) es
+          ≡ sizedAt w (foundAt (pick b (K.At (e .value) (e .vlen)) (place f (keyOf t []) es)))
       by h true = sized-stays (e .value) (e .vlen) es
       by h false = h
 
-  field-shown : (P : List ℕ) (m : MapEntry) → Usable f P m → sizedIn w f (fieldFrom f t w S.Missing (entriesOf P m)) ≡ sizedTo w (field t (map (shown f) (entriesOf P m)))
+  field-shown : (P : List ℕ) (m : MapEntry) → Usable f P m
+      → sizedIn w f (fieldFrom f t w S.Missing (entriesOf P m)) ≡ sizedTo w (field t (map (shown f) (entriesOf P m)))
   unfolding fieldAt
   field-shown P m u = sized-is f P m t w (fieldAt f P t m) _ u refl (field-walked (entriesOf P m))
 
@@ -165,7 +168,8 @@ module _ (f P : List ℕ) (first count : ℕ) (a : InputAt) (i n : ℕ) (k : Not
   unfolding inputFrom
   note-more e b p q = record {
     in-table = omega (arith, k .in-table);
-    is = ap (λ (x : InputAt). inputFrom f x (run P (i + 1) (n - 1))) (q ∙ ap (noteInput f a) p) ∙ sym (ap (inputFrom f a) (run-one P i n h (k .in-table))) ∙ k .is;
+    is = ap (λ (x : InputAt). inputFrom f x (run P (i + 1) (n - 1))) (q ∙ ap (noteInput f a) p)
+        ∙ sym (ap (inputFrom f a) (run-one P i n h (k .in-table))) ∙ k .is;
   }
 
 pub ruleset notings = (note-first, note-done, note-in, note-fits, note-more)

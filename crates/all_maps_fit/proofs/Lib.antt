@@ -2,3 +2,4 @@ pub mod Runs
 pub mod Gathers
 pub mod Fields
 pub mod Inputs
+pub mod Numbers

@@ -41,7 +41,8 @@ module _ {A : Type 0} (g : ℕ → A) where
       let p : 0 + i ≡ i = omega arith in
       let q : n - i - 1 ≡ n - suc i = omega arith in
       let r : i + 1 ≡ 0 + suc i = omega arith in
-      from-drop i 0 n ∙ ap (λ (k : ℕ). from g k (n - i)) p ∙ from-one i (n - i) (omega arith) ∙ ap (λ (l : List A). g i ∷ l) (ap₂ (from g) r q ∙ sym (from-drop (suc i) 0 n))
+      from-drop i 0 n ∙ ap (λ (k : ℕ). from g k (n - i)) p ∙ from-one i (n - i) (omega arith)
+      ∙ ap (λ (l : List A). g i ∷ l) (ap₂ (from g) r q ∙ sym (from-drop (suc i) 0 n))
 
   pub from-map : {B : Type 0} (h : A → B) (i n : ℕ) → map h (from g i n) ≡ from (λ j. h (g j)) i n
   unfolding from
@@ -54,3 +55,14 @@ module _ {A : Type 0} (g : ℕ → A) where
   from-shift k i (suc n) =
       let p : k + i + 1 ≡ k + (i + 1) = omega arith in
       ap (λ (l : List A). g (k + i) ∷ l) (ap (λ (j : ℕ). from g j n) p ∙ from-shift k (i + 1) n)
+
+-- of n in all, those from number i on: none, or one and the rest; from the first on, all
+module _ {A : Type 0} (g : ℕ → A) (i n : ℕ) where
+  pub rest-none : n ≤ i → from g i (n - i) ≡ []
+  rest-none h = from-none g i (n - i) (omega arith)
+
+  pub rest-one : i < n → from g i (n - i) ≡ g i ∷ from g (i + 1) (n - (i + 1))
+  rest-one h = let q : n - i - 1 ≡ n - (i + 1) = omega arith in from-one g i (n - i) (omega arith) ∙ rw q
+
+pub rest-all : {A : Type 0} (g : ℕ → A) (n : ℕ) → from g 0 (n - 0) ≡ from g 0 n
+rest-all g n = let q : n - 0 ≡ n = omega arith in rw q

@@ -38,10 +38,11 @@ pub record AllFit (f P M : List ℕ) (s : Psbt) : Type 0 where
 unfoldable pub pairsOf : List ℕ → List ℕ → List ℕ → ℕ → List Pair
 pairsOf f P M m = map (shown f) (entriesOf P (mapAt M m))
 
--- what a transaction takes from input number i, and from output number i
+-- what a transaction takes from input number i
 unfoldable pub inAt : List ℕ → List ℕ → List ℕ → ℕ → In
 inAt f P M i = inOf (pairsOf f P M (1 + i))
 
+-- what it takes from output number i
 unfoldable pub outAt : List ℕ → List ℕ → List ℕ → Psbt → ℕ → Out
 outAt f P M s i = outOf (pairsOf f P M (1 + s .inputs + i))
 
@@ -50,9 +51,10 @@ unfoldable pub from : {A : Type 0} → (ℕ → A) → ℕ → ℕ → List A
 from g i zero = []
 from g i (suc n) = g i ∷ from g (i + 1) n
 
--- all inputs, and all outputs
+-- all inputs
 unfoldable pub insOf : List ℕ → List ℕ → List ℕ → Psbt → List In
 insOf f P M s = from (inAt f P M) 0 (s .inputs)
 
+-- all outputs
 unfoldable pub outsOf : List ℕ → List ℕ → List ℕ → Psbt → List Out
 outsOf f P M s = from (outAt f P M s) 0 (s .outputs)

@@ -53,18 +53,20 @@ notedAt S.Missing own w e = pick own (sizedAt w (F.At (e .value) (e .vlen))) S.M
 notedAt S.Misfit own w e = S.Misfit
 notedAt (S.At s) own w e = S.At s
 
--- of type t without key data, after one pair, and after several
+-- the same of type t without key data
 unfoldable pub fieldNoted : List ℕ → ℕ → ℕ → SizedAt → PairEntry → SizedAt
 fieldNoted f t w old e = notedAt old (same (keyOf t []) (keyIn f e)) w e
 
+-- and after several pairs
 unfoldable pub fieldFrom : List ℕ → ℕ → ℕ → SizedAt → List PairEntry → SizedAt
 fieldFrom f t w old [] = old
 fieldFrom f t w old (e ∷ es) = fieldFrom f t w (fieldNoted f t w old e) es
 
--- the places of an input's fields: none yet, after one pair, and after several
+-- the places of an input's fields: none yet
 abbrev pub noInput : InputAt
 noInput = record { txid = S.Missing; index = S.Missing; sequence = S.Missing; time = S.Missing; height = S.Missing }
 
+-- after one pair
 unfoldable pub noteInput : List ℕ → InputAt → PairEntry → InputAt
 noteInput f a e = record {
   txid = fieldNoted f 0x0e 32 (a .txid) e;
@@ -74,6 +76,7 @@ noteInput f a e = record {
   height = fieldNoted f 0x12 4 (a .height) e;
 }
 
+-- after several
 unfoldable pub inputFrom : List ℕ → InputAt → List PairEntry → InputAt
 inputFrom f a [] = a
 inputFrom f a (e ∷ es) = inputFrom f (noteInput f a e) es

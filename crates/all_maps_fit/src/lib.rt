@@ -12,12 +12,12 @@ use format::Psbt;
 use format::Ruled;
 ghost use mathlib.Core.Path.{_≡_};
 ghost use mathlib.Core.List.{map};
-ghost use Prim.Native.Nat.{_+_, _≤_};
+ghost use Prim.Native.Nat.{_+_, _<_, _≤_};
 ghost use Rattle.format.specs.Content.{field};
 ghost use Rattle.format.specs.Entries.{shown};
 ghost use Rattle.format.specs.Tables.{view, gather, mapsReported};
 ghost use Rattle.format.specs.Locks.{sizedTo, inOf};
-ghost use Rattle.entries.specs.Words.{pairCount};
+ghost use Rattle.entries.specs.Words.{pairCount, mapCount, mapAt};
 ghost use Rattle.fitness.specs.Fits.{entriesOf};
 ghost use Rattle.all_maps_fit.specs.Alls.{ruledBy, Usable};
 ghost use Rattle.all_maps_fit.specs.Places.{fieldAt, sizedAt, sizedIn, notedAt, noteInput, inputIn};
@@ -53,6 +53,22 @@ pub fn all_fit(file: &[u8], pairs: &[u32], maps: &[u32], psbt: Psbt) -> Ruled
     Ruled::Passed
 }
 
+// The map entry of input number `i`.
+pub fn input_entry(maps: &[u32], i: u64) -> MapEntry
+    requires { ⌜ 1 + i < mapCount (now maps) ⌝ }
+    ensures { λ r. ⌜ r ≡ mapAt (now (maps .entry)) (1 + i) ⌝ }
+{
+    entries::map_entry(maps, (1 + i) as usize)
+}
+
+// The map entry of output number `i`.
+pub fn output_entry(maps: &[u32], psbt: Psbt, i: u64) -> MapEntry
+    requires { ⌜ 1 + psbt .inputs + i < mapCount (now maps) ⌝ }
+    ensures { λ r. ⌜ r ≡ mapAt (now (maps .entry)) (1 + psbt .inputs + i) ⌝ }
+{
+    entries::map_entry(maps, (1 + psbt.inputs + i) as usize)
+}
+
 // The field of a type without key data, in a map whose pairs are in the table.
 pub fn found_field(file: &[u8], pairs: &[u32], m: MapEntry, key_type: u8) -> FoundAt
     requires { ⌜ m .first + m .count ≤ pairCount (now pairs) ⌝ }
@@ -65,6 +81,7 @@ pub fn found_field(file: &[u8], pairs: &[u32], m: MapEntry, key_type: u8) -> Fou
     }
 }
 
+// The field that was found, by whether it has `width` bytes.
 fn sized(found: FoundAt, width: usize) -> SizedAt
     ensures { λ r. ⌜ r ≡ sizedAt width found ⌝ }
 {
@@ -83,7 +100,8 @@ fn sized(found: FoundAt, width: usize) -> SizedAt
 // The field of a type that must have `width` bytes, in a map that is fit.
 pub fn sized_field(file: &[u8], pairs: &[u32], m: MapEntry, key_type: u8, width: usize) -> SizedAt
     requires { ⌜ Usable (now file) (now pairs) m ⌝ }
-    ensures { λ r. ⌜ sizedIn width (now (file .entry)) r ≡ sizedTo width (field «key_type» (map (shown (now (file .entry))) (entriesOf (now (pairs .entry)) m))) ⌝ }
+    ensures { λ r. ⌜ sizedIn width (now (file .entry)) r
+        ≡ sizedTo width (field «key_type» (map (shown (now (file .entry))) (entriesOf (now (pairs .entry)) m))) ⌝ }
 {
     sized(found_field(file, pairs, m, key_type), width)
 }

@@ -164,7 +164,7 @@ pub fn get_sp_ecdh_share(
         ≡ toldLooked (inputShare (now (file .entry)) (now («scan_key» .entry))
         (heldInput (now (file .entry)) (now (pairs .entry)) (now (maps .entry)) psbt i)) ⌝ }
 {
-    payments::input::get_sp_ecdh_share(file, pairs, maps, psbt, i, scan_key)
+    silent_payments::input::get_sp_ecdh_share(file, pairs, maps, psbt, i, scan_key)
 }
 
 // The DLEQ proof of a scan key.
@@ -180,7 +180,7 @@ pub fn get_sp_dleq_proof(
         ≡ toldLooked (inputProof (now (file .entry)) (now («scan_key» .entry))
         (heldInput (now (file .entry)) (now (pairs .entry)) (now (maps .entry)) psbt i)) ⌝ }
 {
-    payments::input::get_sp_dleq_proof(file, pairs, maps, psbt, i, scan_key)
+    silent_payments::input::get_sp_dleq_proof(file, pairs, maps, psbt, i, scan_key)
 }
 
 // All shares.
@@ -188,7 +188,7 @@ pub fn sp_ecdh_shares(file: &[u8], pairs: &[u32], maps: &[u32], psbt: Psbt, i: u
     ensures { λ r. ⌜ toldListing r
         ≡ toldListing (list (now (file .entry)) 0x1d (heldInput (now (file .entry)) (now (pairs .entry)) (now (maps .entry)) psbt i)) ⌝ }
 {
-    payments::input::sp_ecdh_shares(file, pairs, maps, psbt, i)
+    silent_payments::input::sp_ecdh_shares(file, pairs, maps, psbt, i)
 }
 
 // All proofs.
@@ -196,7 +196,7 @@ pub fn sp_dleq_proofs(file: &[u8], pairs: &[u32], maps: &[u32], psbt: Psbt, i: u
     ensures { λ r. ⌜ toldListing r
         ≡ toldListing (list (now (file .entry)) 0x1e (heldInput (now (file .entry)) (now (pairs .entry)) (now (maps .entry)) psbt i)) ⌝ }
 {
-    payments::input::sp_dleq_proofs(file, pairs, maps, psbt, i)
+    silent_payments::input::sp_dleq_proofs(file, pairs, maps, psbt, i)
 }
 
 // The derivations of silent payment spend keys.
@@ -210,7 +210,7 @@ pub fn sp_spend_bip32_derivations(
     ensures { λ r. ⌜ toldListing r
         ≡ toldListing (list (now (file .entry)) 0x1f (heldInput (now (file .entry)) (now (pairs .entry)) (now (maps .entry)) psbt i)) ⌝ }
 {
-    payments::input::sp_spend_bip32_derivations(file, pairs, maps, psbt, i)
+    silent_payments::input::sp_spend_bip32_derivations(file, pairs, maps, psbt, i)
 }
 
 // The MuSig2 public nonce of a participant under an aggregate key; `leaf` is a leaf hash, or empty.
@@ -228,7 +228,7 @@ pub fn get_musig2_pub_nonce(
         ≡ toldLooked (pubNonce (now (file .entry)) (now (participant .entry))
         (now (aggregate .entry)) (now (leaf .entry)) (heldInput (now (file .entry)) (now (pairs .entry)) (now (maps .entry)) psbt i)) ⌝ }
 {
-    payments::input::get_musig2_pub_nonce(file, pairs, maps, psbt, i, participant, aggregate, leaf)
+    musig2::input::get_musig2_pub_nonce(file, pairs, maps, psbt, i, participant, aggregate, leaf)
 }
 
 // The partial signature, likewise.
@@ -246,16 +246,7 @@ pub fn get_musig2_partial_sig(
         ≡ toldLooked (partialSig (now (file .entry)) (now (participant .entry))
         (now (aggregate .entry)) (now (leaf .entry)) (heldInput (now (file .entry)) (now (pairs .entry)) (now (maps .entry)) psbt i)) ⌝ }
 {
-    payments::input::get_musig2_partial_sig(
-        file,
-        pairs,
-        maps,
-        psbt,
-        i,
-        participant,
-        aggregate,
-        leaf,
-    )
+    musig2::input::get_musig2_partial_sig(file, pairs, maps, psbt, i, participant, aggregate, leaf)
 }
 
 // The participants of an aggregate key, a list of 33-byte keys.
@@ -272,7 +263,7 @@ pub fn get_musig2_participant_pubkeys(
         ≡ toldLooked (inputParticipants (now (file .entry))
         (now (aggregate .entry)) (now (leaf .entry)) (heldInput (now (file .entry)) (now (pairs .entry)) (now (maps .entry)) psbt i)) ⌝ }
 {
-    payments::input::get_musig2_participant_pubkeys(file, pairs, maps, psbt, i, aggregate, leaf)
+    musig2::input::get_musig2_participant_pubkeys(file, pairs, maps, psbt, i, aggregate, leaf)
 }
 
 // How many they are.
@@ -289,7 +280,7 @@ pub fn get_musig2_participant_count(
         ≡ toldNumbered (participantCount (inputParticipants (now (file .entry))
         (now (aggregate .entry)) (now (leaf .entry)) (heldInput (now (file .entry)) (now (pairs .entry)) (now (maps .entry)) psbt i))) ⌝ }
 {
-    payments::input::get_musig2_participant_count(file, pairs, maps, psbt, i, aggregate, leaf)
+    musig2::input::get_musig2_participant_count(file, pairs, maps, psbt, i, aggregate, leaf)
 }
 
 // Participant number `n`.
@@ -307,7 +298,7 @@ pub fn get_musig2_participant(
         ≡ toldLooked (participant n (inputParticipants (now (file .entry))
         (now (aggregate .entry)) (now (leaf .entry)) (heldInput (now (file .entry)) (now (pairs .entry)) (now (maps .entry)) psbt i))) ⌝ }
 {
-    payments::input::get_musig2_participant(file, pairs, maps, psbt, i, aggregate, leaf, n)
+    musig2::input::get_musig2_participant(file, pairs, maps, psbt, i, aggregate, leaf, n)
 }
 
 // The output that is spent: its amount, and where its script stands.
@@ -315,7 +306,7 @@ pub fn get_witness_utxo(file: &[u8], pairs: &[u32], maps: &[u32], psbt: Psbt, i:
     ensures { λ r. ⌜ toldUtxo r
         ≡ toldUtxo (getWitnessUtxo (now (file .entry)) (heldInput (now (file .entry)) (now (pairs .entry)) (now (maps .entry)) psbt i)) ⌝ }
 {
-    payments::input::get_witness_utxo(file, pairs, maps, psbt, i)
+    witness_utxo::get_witness_utxo(file, pairs, maps, psbt, i)
 }
 
 // That script, as the part of the file itself: empty for absence and refusal.
@@ -330,5 +321,5 @@ pub fn get_witness_utxo_script<'a>(
         ≡ utxoPart (now (file .entry))
         (getWitnessUtxo (now (file .entry)) (heldInput (now (file .entry)) (now (pairs .entry)) (now (maps .entry)) psbt i)) ⌝ }
 {
-    payments::input::get_witness_utxo_script(file, pairs, maps, psbt, i)
+    witness_utxo::get_witness_utxo_script(file, pairs, maps, psbt, i)
 }

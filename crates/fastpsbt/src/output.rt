@@ -96,7 +96,7 @@ pub fn get_musig2_participant_pubkeys(
         ≡ toldLooked (outputParticipants (now (file .entry))
         (now (aggregate .entry)) (heldOutput (now (file .entry)) (now (pairs .entry)) (now (maps .entry)) psbt i)) ⌝ }
 {
-    payments::output::get_musig2_participant_pubkeys(file, pairs, maps, psbt, i, aggregate)
+    musig2::output::get_musig2_participant_pubkeys(file, pairs, maps, psbt, i, aggregate)
 }
 
 // How many they are.
@@ -112,7 +112,7 @@ pub fn get_musig2_participant_count(
         ≡ toldNumbered (participantCount (outputParticipants (now (file .entry))
         (now (aggregate .entry)) (heldOutput (now (file .entry)) (now (pairs .entry)) (now (maps .entry)) psbt i))) ⌝ }
 {
-    payments::output::get_musig2_participant_count(file, pairs, maps, psbt, i, aggregate)
+    musig2::output::get_musig2_participant_count(file, pairs, maps, psbt, i, aggregate)
 }
 
 // Participant number `n`.
@@ -129,7 +129,7 @@ pub fn get_musig2_participant(
         ≡ toldLooked (participant n (outputParticipants (now (file .entry))
         (now (aggregate .entry)) (heldOutput (now (file .entry)) (now (pairs .entry)) (now (maps .entry)) psbt i))) ⌝ }
 {
-    payments::output::get_musig2_participant(file, pairs, maps, psbt, i, aggregate, n)
+    musig2::output::get_musig2_participant(file, pairs, maps, psbt, i, aggregate, n)
 }
 
 // Where the script of an output stands: in the file, or in the script table once scripts are set.

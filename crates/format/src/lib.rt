@@ -3,6 +3,12 @@ ghost use mathlib.Core.Path.{_≡_};
 ghost use Rattle.format.specs.Refusals.{numberOf};
 ghost use Rattle.format.specs.Locks.{orZero};
 
+// A lock number below this is a block height, any other a time.
+pub const THRESHOLD: u32 = 500_000_000;
+
+// How many bytes a public key has.
+pub const PUBKEY_LEN: usize = 33;
+
 // The longest file that is read, in bytes.
 pub const LIMIT: usize = 1_048_576;
 

@@ -6,7 +6,7 @@ ghost use mathlib.Core.Path.{_≡_};
 ghost use mathlib.Core.List.{[]};
 ghost use Prim.Native.Nat.{_+_, _≤_};
 ghost use lib.ListN.{length};
-ghost use Rattle.format.specs.Keys.{order, keyOf, same};
+ghost use Rattle.format.specs.Keys.{order, isBelow, isSame, keyOf, same};
 ghost use Rattle.keys.specs.Fronts.{blockAt, Front};
 
 // The four bytes from `i` on as one number.
@@ -100,6 +100,28 @@ pub fn compare(a: &[u8], b: &[u8]) -> Order
         return Order::Above;
     }
     compare_blocks(a, b)
+}
+
+// An order is that of a smaller key to a greater one.
+pub fn is_below(o: Order) -> bool
+    ensures { λ r. ⌜ r ≡ isBelow o ⌝ }
+{
+    match o {
+        Order::Below => true,
+        Order::Same => false,
+        Order::Above => false,
+    }
+}
+
+// An order is that of equal keys.
+pub fn is_same(o: Order) -> bool
+    ensures { λ r. ⌜ r ≡ isSame o ⌝ }
+{
+    match o {
+        Order::Below => false,
+        Order::Same => true,
+        Order::Above => false,
+    }
 }
 
 // A key is a type without data.

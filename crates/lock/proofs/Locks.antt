@@ -102,7 +102,8 @@ module _ (fallback : Maybe) (a : Asks) where
 pub ruleset rules = (no-fault, a-fault)
 
 -- where all maps are fit
-pub lock-fit : (f P M : List ℕ) (s : Psbt) → AllFit f P M s → (a : Asks) (r : Lock) → a ≡ walk noAsks 0 (insOf f P M s) → r ≡ decideAsks (s .«fallback_locktime») a
+pub lock-fit : (f P M : List ℕ) (s : Psbt) → AllFit f P M s → (a : Asks) (r : Lock) → a ≡ walk noAsks 0 (insOf f P M s)
+    → r ≡ decideAsks (s .«fallback_locktime») a
     → r ≡ lockDecided (view f P M s) s
 unfolding lockDecided lockBy
 lock-fit f P M s k a r ea er =

@@ -3,6 +3,7 @@ use format::Lock;
 use format::Maybe;
 use format::Numbered;
 use format::PsbtError;
+use format::THRESHOLD;
 use format::UnsignedTx;
 use reasons::put_meaning;
 use reasons::put_refused;
@@ -14,9 +15,6 @@ ghost use Rattle.text.specs.Spots.{spot, lay};
 ghost use Rattle.lock_lines.specs.Lines.{heightNumber, timeNumber, lockText, fallbackText, headLine, heightText, timeText, inputName};
 ghost use Rattle.lock_lines.specs.Lines.{inputLine, lackText, txLine, outcome, fallbackDecided, decided, heightDecided, timeDecided};
 ghost use Rattle.lock_lines.specs.Lines.{refusedEnd, bothLine, misread, tooGreatLine, tooSmallLine, malformedLine, verdict};
-
-// A lock number below this is a block height, any other a time.
-const THRESHOLD: u32 = 500_000_000;
 
 // `height N`
 fn put_height_number(out: &mut [u8], at: usize, n: u64) -> usize

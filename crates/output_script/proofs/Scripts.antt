@@ -123,7 +123,8 @@ joined-other false b x y z = refl
 
 -- an output by where its script 04 was found
 module _ (f P : List ℕ) (m : MapEntry) (x : FoundAt) (ex : x ≡ fieldAt f P 0x04 m) (t : State) (T : List ℕ) (i : ℕ) where
-  table-is : tableFits t (outOf (map (shown f) (entriesOf P m)) ∷ []) (drop (i * scriptEntry) T) ≡ pick (t .set) (fitsBy (present (foundIn f x)) (entryAt T i)) true
+  table-is : tableFits t (outOf (map (shown f) (entriesOf P m)) ∷ []) (drop (i * scriptEntry) T)
+      ≡ pick (t .set) (fitsBy (present (foundIn f x)) (entryAt T i)) true
   unfolding tableFits scriptsFit outOf entryAt
   table-is =
       ap (λ (b : Bool). pick (t .set) b true)

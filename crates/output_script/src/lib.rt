@@ -40,7 +40,7 @@ fn in_table(state: State, scripts: &[u8], i: u64) -> OutputScript
         if scripts::entry_fits(false, scripts::entry_at(scripts, i)) {
             OutputScript::InTable {
                 start: i as usize * scripts::ENTRY + 1,
-                len: 34,
+                len: scripts::SCRIPT_LEN,
             }
         } else {
             OutputScript::Refused(PsbtError::BadIndex)
@@ -78,7 +78,8 @@ pub fn output_script(
     scripts: &[u8],
     i: u64,
 ) -> OutputScript
-    ensures { λ r. ⌜ toldScript r ≡ toldScript (outputScript (now (file .entry)) state (now (scripts .entry)) i (heldOutput (now (file .entry)) (now (pairs .entry)) (now (maps .entry)) psbt i)) ⌝ }
+    ensures { λ r. ⌜ toldScript r ≡ toldScript (outputScript (now (file .entry)) state (now (scripts .entry)) i
+        (heldOutput (now (file .entry)) (now (pairs .entry)) (now (maps .entry)) psbt i)) ⌝ }
 {
     match fitness::fit_output(file, pairs, maps, psbt, i) {
         Fit::Refused(e) => OutputScript::Refused(e),
@@ -108,7 +109,8 @@ pub fn output_script_part<'a>(
     scripts: &'a [u8],
     i: u64,
 ) -> &'a [u8]
-    ensures { λ r. ⌜ now r ≡ scriptPart (now (file .entry)) (now (scripts .entry)) (outputScript (now (file .entry)) state (now (scripts .entry)) i (heldOutput (now (file .entry)) (now (pairs .entry)) (now (maps .entry)) psbt i)) ⌝ }
+    ensures { λ r. ⌜ now r ≡ scriptPart (now (file .entry)) (now (scripts .entry)) (outputScript (now (file .entry)) state (now (scripts .entry)) i
+        (heldOutput (now (file .entry)) (now (pairs .entry)) (now (maps .entry)) psbt i)) ⌝ }
 {
     let at = output_script(file, pairs, maps, psbt, state, scripts, i);
     script_part(file, scripts, at)

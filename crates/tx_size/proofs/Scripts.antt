@@ -1,6 +1,6 @@
 -- Laws of where an output's script stands, and of how long it is.
 use mathlib.Core.Path.{_≡_, refl, sym, _∙_, ap}
-use mathlib.Core.Bool.{Bool, true, false}
+use mathlib.Core.Bool.{Bool, true, false, not}
 use mathlib.Core.List.{List, [], _∷_}
 use Prim.Native.Nat.{ℕ, _-_, _*_, _^_, _≤_, _<_}
 use native.Mathlib.Omega.{arith}
@@ -40,7 +40,7 @@ module _ (t : State) (T : List ℕ) (i : ℕ) where
 pub ruleset entries-set = (entry-set, entry-unset)
 
 -- a script set in it
-pub set-none : (e : List ℕ) → length e ≡ 0 → false ≡ isSet e
+pub set-none : (e : List ℕ) → length e ≡ 0 → not (eqb (length e) 0) ≡ isSet e
 unfolding isSet
 set-none [] h = refl
 set-none (b ∷ s) h = absurd (omega arith)

@@ -1,4 +1,5 @@
--- `all_maps_fit::all_fit` meets its contract. The loop's invariant: what the maps from number `m` on say is what all say. The measure is the number of maps left.
+-- `all_maps_fit::all_fit` meets its contract. The loop's invariant: what the maps from number `m` on say is what all
+-- say. The measure is the number of maps left.
 use borrow.Author.Needs.{needs}
 use Prim.Native.Nat.{_-_}
 use Rattle.format.specs.Tables.{mapsReported}

@@ -1,4 +1,5 @@
--- `all_maps_fit::input_at` meets its contract. The loop's invariant: the fields after the pairs from `i` on are those after all. The measure is the number of pairs left.
+-- `all_maps_fit::input_at` meets its contract. The loop's invariant: the fields after the pairs from `i` on are those
+-- after all. The measure is the number of pairs left.
 use borrow.Author.Needs.{needs}
 use Rattle.all_maps_fit.proofs.Inputs.{Noting, notings}
 use Rattle.all_maps_fit.proofs.input_at.Statement.{statement}
