@@ -1,10 +1,8 @@
 -- Laws of measuring outputs and the whole, one for each way through the functions.
 use mathlib.Core.Path.{_≡_, refl, sym, _∙_, ap, ap₂}
 use mathlib.Core.Bool.{Bool, true, false}
-use mathlib.Core.List.{List, [], _∷_}
-use Prim.Native.Nat.{ℕ, _+_, _-_, _^_, _≤_, _<_}
-use native.Mathlib.Omega.{arith}
-use lib.ListN.{length}
+use mathlib.Core.List.{List}
+use Prim.Native.Nat.{ℕ, _+_, _-_, _≤_, _<_}
 use Rattle.format.specs.Content.{Found, field}
 use Rattle.format.specs.Locks.{Sized, missing, misfit, is, sizedTo}
 use Rattle.format.specs.Scripts.{Out, outOf}
