@@ -3,19 +3,14 @@
 #
 #     FASTPSBT_RS=ORIGINAL [LIBRARY=FOLDER] run.sh
 #
-# LIBRARY is a folder with libexports.a for this machine; without it the library is proved and built first. It needs cargo and no network.
+# LIBRARY is a folder with libfastpsbt.a for this machine; without it the library is proved and built first. It needs cargo and no network.
 set -eu
 : "${FASTPSBT_RS:?the path of the original}"
 here=$(cd "$(dirname "$0")" && pwd -P)
 root=$(dirname "$here")
 if [ -z "${LIBRARY:-}" ]; then
-  if [ "$(uname -m)" = x86_64 ]; then
-    (cd "$root" && rt staticlib exports)
-    LIBRARY=$root/target/staticlib
-  else
-    "$root/examples/native-staticlib"
-    LIBRARY=$root/target/native
-  fi
+  "$root/library"
+  LIBRARY=$root/target/library
 fi
 LIBRARY=$(cd "$LIBRARY" && pwd -P)
 FASTPSBT_RS=$(cd "$(dirname "$FASTPSBT_RS")" && pwd -P)/$(basename "$FASTPSBT_RS")

@@ -3,16 +3,12 @@
 
 #include "fastpsbt.h"
 
-/* All memory there is: a file of up to 64 KiB, 1,024 pairs and 256 maps. */
-static uint8_t file[65536], tx[65536];
-static uint32_t pairs[1024 * FASTPSBT_PAIR_WORDS], maps[256 * FASTPSBT_MAP_WORDS];
-static uint64_t report[FASTPSBT_ANSWER_WORDS], answer[FASTPSBT_ANSWER_WORDS];
-static size_t file_len;
-
+/* All memory there is: a file of up to 64 KiB, 1,024 pairs and 256 maps, and a transaction, which is shorter than its file. */
 #define LEN(slice) (sizeof(slice) / sizeof((slice)[0]))
-/* What every call on a parsed file is lent first: the report is the accepted parse's, any other is FASTPSBT_BAD_INDEX. */
-#define PSBT file, file_len, pairs, LEN(pairs), maps, LEN(maps), report, LEN(report)
-#define ANSWER answer, LEN(answer)
+static uint8_t file[65536], tx[sizeof file];
+static uint32_t pairs[1024 * FASTPSBT_PAIR_WORDS], maps[256 * FASTPSBT_MAP_WORDS];
+static uint64_t answer[FASTPSBT_ANSWER_WORDS];
+static struct fastpsbt_lent psbt = {file, 0, pairs, LEN(pairs), maps, LEN(maps), {0}};
 
 static void hex(const uint8_t *bytes, size_t len)
 {
@@ -23,44 +19,57 @@ static void hex(const uint8_t *bytes, size_t len)
 static void number(const char *name, uint64_t refusal)
 {
     if (refusal != FASTPSBT_OK) printf(" %s refused %llu", name, (unsigned long long)refusal);
-    else if (answer[0] == 1) printf(" %s %llu", name, (unsigned long long)answer[1]);
+    else if (answer[FASTPSBT_VALUES] != 0) printf(" %s %llu", name, (unsigned long long)answer[FASTPSBT_NUMBER]);
 }
 
 static void show_input(uint64_t i)
 {
     printf("input %llu", (unsigned long long)i);
-    if (fastpsbt_input_previous_txid(PSBT, i, ANSWER) == FASTPSBT_OK && answer[0] == 2) {
+    uint64_t refusal = fastpsbt_input_previous_txid(FASTPSBT_LENT(psbt), i, answer, FASTPSBT_ANSWER_WORDS);
+    if (refusal == FASTPSBT_OK && answer[FASTPSBT_VALUES] != 0) {
         printf(" txid ");
-        hex(file + answer[1], answer[2]);
+        hex(file + answer[FASTPSBT_PLACE_START], answer[FASTPSBT_PLACE_LENGTH]);
     }
-    number("index", fastpsbt_input_output_index(PSBT, i, ANSWER));
-    number("height", fastpsbt_input_required_height_locktime(PSBT, i, ANSWER));
-    number("time", fastpsbt_input_required_time_locktime(PSBT, i, ANSWER));
+    number("index", fastpsbt_input_output_index(FASTPSBT_LENT(psbt), i, answer, FASTPSBT_ANSWER_WORDS));
+    number("height", fastpsbt_input_required_height_locktime(FASTPSBT_LENT(psbt), i, answer, FASTPSBT_ANSWER_WORDS));
+    number("time", fastpsbt_input_required_time_locktime(FASTPSBT_LENT(psbt), i, answer, FASTPSBT_ANSWER_WORDS));
     printf("\n");
+}
+
+static void show_lock(void)
+{
+    uint64_t refusal = fastpsbt_lock_decided(FASTPSBT_LENT(psbt), answer, FASTPSBT_ANSWER_WORDS);
+    if (refusal != FASTPSBT_OK) {
+        printf("lock refused %llu\n", (unsigned long long)refusal);
+        return;
+    }
+    switch (answer[FASTPSBT_LOCK_WHAT]) {
+    case FASTPSBT_LOCK_HEIGHT: printf("lock height"); break;
+    case FASTPSBT_LOCK_TIME: printf("lock time"); break;
+    default: printf("lock fallback");
+    }
+    printf(" %llu\n", (unsigned long long)answer[FASTPSBT_LOCK_NUMBER]);
 }
 
 int main(int argc, char **argv)
 {
-    static const uint8_t no_scripts[1];
-    static const char *const decided[] = {"fallback", "height", "time"};
+    static const uint8_t no_scripts[1] = {0};
     FILE *in = argc == 2 ? fopen(argv[1], "rb") : NULL;
     if (in == NULL) return fprintf(stderr, "usage: psbt_show FILE\n"), 2;
-    file_len = fread(file, 1, sizeof file, in);
+    psbt.file_len = fread(file, 1, sizeof file, in);
     if (fgetc(in) != EOF) return fprintf(stderr, "the file is longer than %zu bytes\n", sizeof file), 2;
     fclose(in);
 
-    uint64_t refusal = fastpsbt_parse(file, file_len, pairs, LEN(pairs), maps, LEN(maps), report, LEN(report));
+    uint64_t refusal = fastpsbt_parse(FASTPSBT_LENT(psbt));
     if (refusal != FASTPSBT_OK) return printf("refused %llu\n", (unsigned long long)refusal), 1;
-    for (uint64_t i = 0; i < report[4]; i++) show_input(i);
+    for (uint64_t i = 0; i < psbt.report[FASTPSBT_REPORT_INPUTS]; i++) show_input(i);
+    show_lock();
 
-    refusal = fastpsbt_lock_decided(PSBT, ANSWER);
-    if (refusal != FASTPSBT_OK) printf("lock refused %llu\n", (unsigned long long)refusal);
-    else printf("lock %s %llu\n", decided[answer[1]], (unsigned long long)answer[2]);
-
-    refusal = fastpsbt_unsigned_tx(PSBT, 0, 0, no_scripts, 0, tx, sizeof tx, ANSWER);
+    refusal = fastpsbt_unsigned_tx(
+        FASTPSBT_LENT(psbt), 0, 0, no_scripts, 0, tx, sizeof tx, answer, FASTPSBT_ANSWER_WORDS);
     if (refusal != FASTPSBT_OK) return printf("unsigned refused %llu\n", (unsigned long long)refusal), 1;
     printf("unsigned ");
-    hex(tx, answer[1]);
+    hex(tx, answer[FASTPSBT_TX_LENGTH]);
     printf("\n");
     return 0;
 }

@@ -2,8 +2,32 @@
 //! all. What a caller owes from C (valid, aligned, apart) Rust's slices keep by themselves, so no call here is unsafe to
 //! its user. Nothing is allocated.
 
+// Numbers of the header, by its names without `FASTPSBT_`: how many words things take, and at which word of an answer a
+// value stands.
+const OK: u64 = 0;
+const ANSWER_WORDS: usize = 8;
+pub const PAIR_WORDS: usize = 4;
+pub const MAP_WORDS: usize = 2;
+pub const SCRIPT_BYTES: usize = 35;
+const VALUES: usize = 0;
+const REPORT_INPUTS: usize = 4;
+const REPORT_OUTPUTS: usize = 5;
+const PLACE_START: usize = 1;
+const PLACE_LENGTH: usize = 2;
+const NUMBER: usize = 1;
+const LOCK_WHAT: usize = 1;
+const LOCK_NUMBER: usize = 2;
+const LOCK_INPUT: usize = 3;
+const LOCK_HEIGHT: u64 = 1;
+const LOCK_TIME: u64 = 2;
+const STATE_SET: usize = 1;
+const STATE_WRITTEN: usize = 2;
+const TX_LENGTH: usize = 1;
+const TX_SET: usize = 2;
+const TX_WRITTEN: usize = 3;
+
 /// An answer's words: how many values there are, the values, and zeros.
-pub type Words = [u64; 8];
+pub type Words = [u64; ANSWER_WORDS];
 
 /// A refusal, by its number.
 #[derive(Clone, Copy, Debug, PartialEq, Eq)]
@@ -73,7 +97,7 @@ declared! {
 macro_rules! asked {
     ($psbt:expr, $name:ident($($more:expr),*)) => {{
         let psbt = $psbt;
-        let mut answer: Words = [0; 8];
+        let mut answer: Words = [0; ANSWER_WORDS];
         // Safety: each pointer and length is a slice's; `answer` and a buffer that is written are borrowed for this call alone.
         let number = unsafe {
             $name(
@@ -81,7 +105,7 @@ macro_rules! asked {
                 psbt.report.as_ptr(), psbt.report.len(), $($more,)* answer.as_mut_ptr(), answer.len(),
             )
         };
-        if number == 0 { Ok(answer) } else { Err(Refused(number)) }
+        if number == OK { Ok(answer) } else { Err(Refused(number)) }
     }};
 }
 
@@ -95,9 +119,9 @@ macro_rules! fields {
 }
 
 impl<'a> Psbt<'a> {
-    /// Parses a file. Four words of `pairs` are used for each pair, two words of `maps` for each map.
+    /// Parses a file. `PAIR_WORDS` words of `pairs` are used for each pair, `MAP_WORDS` words of `maps` for each map.
     pub fn parse(file: &'a [u8], pairs: &'a mut [u32], maps: &'a mut [u32]) -> Result<Self, Refused> {
-        let mut report: Words = [0; 8];
+        let mut report: Words = [0; ANSWER_WORDS];
         // Safety: each pointer and length is a slice's, and those that are written are borrowed as such.
         let number = unsafe {
             fastpsbt_parse(
@@ -111,7 +135,7 @@ impl<'a> Psbt<'a> {
                 report.len(),
             )
         };
-        if number == 0 {
+        if number == OK {
             Ok(Psbt { file, pairs, maps, report })
         } else {
             Err(Refused(number))
@@ -119,20 +143,20 @@ impl<'a> Psbt<'a> {
     }
 
     pub fn inputs(&self) -> u64 {
-        self.report[4]
+        self.report[REPORT_INPUTS]
     }
 
     pub fn outputs(&self) -> u64 {
-        self.report[5]
+        self.report[REPORT_OUTPUTS]
     }
 
     // The part of the file that an answer names.
     fn part(&self, answer: &Words) -> Option<&'a [u8]> {
-        (answer[0] == 2).then(|| &self.file[answer[1] as usize..][..answer[2] as usize])
+        (answer[VALUES] != 0).then(|| &self.file[answer[PLACE_START] as usize..][..answer[PLACE_LENGTH] as usize])
     }
 
     fn number(&self, answer: &Words) -> Option<u64> {
-        (answer[0] == 1).then_some(answer[1])
+        (answer[VALUES] != 0).then_some(answer[NUMBER])
     }
 
     /// The value of a key of map number `m`.
@@ -159,14 +183,16 @@ impl<'a> Psbt<'a> {
     /// What decides the lock time.
     pub fn lock_decided(&self) -> Result<Lock, Refused> {
         let answer = asked!(self, fastpsbt_lock_decided())?;
-        Ok(match answer[1] {
-            1 => Lock::Height { number: answer[2], input: answer[3] },
-            2 => Lock::Time { number: answer[2], input: answer[3] },
-            _ => Lock::Fallback(answer[2]),
+        let (number, input) = (answer[LOCK_NUMBER], answer[LOCK_INPUT]);
+        Ok(match answer[LOCK_WHAT] {
+            LOCK_HEIGHT => Lock::Height { number, input },
+            LOCK_TIME => Lock::Time { number, input },
+            _ => Lock::Fallback(number),
         })
     }
 
-    /// Sets scripts, each given in `list` by output, start in `buffer` and length. `scripts` takes 35 bytes for each output.
+    /// Sets scripts, each given in `list` by output, start in `buffer` and length. `scripts` takes
+    /// `SCRIPT_BYTES` bytes for each output.
     pub fn set_sp_output_scripts(
         &self,
         list: &[u64],
@@ -187,7 +213,7 @@ impl<'a> Psbt<'a> {
                 scripts.len()
             )
         )?;
-        Ok(State { set: answer[1], written: answer[2] })
+        Ok(State { set: answer[STATE_SET], written: answer[STATE_WRITTEN] })
     }
 
     /// Writes the unsigned transaction to the front of `out`: that part of it, and the new state.
@@ -208,6 +234,6 @@ impl<'a> Psbt<'a> {
                 out.len()
             )
         )?;
-        Ok((&out[..answer[1] as usize], State { set: answer[2], written: answer[3] }))
+        Ok((&out[..answer[TX_LENGTH] as usize], State { set: answer[TX_SET], written: answer[TX_WRITTEN] }))
     }
 }

@@ -3,7 +3,7 @@
 #[allow(dead_code)]
 mod fastpsbt;
 
-use fastpsbt::{Lock, Psbt, Refused, State};
+use fastpsbt::{Lock, Psbt, Refused, State, MAP_WORDS, PAIR_WORDS};
 use std::process::ExitCode;
 
 fn hex(bytes: &[u8]) -> String {
@@ -30,7 +30,7 @@ fn show_input(psbt: &Psbt, i: u64) {
 }
 
 fn show(file: &[u8]) -> Result<(), String> {
-    let (mut pairs, mut maps) = (vec![0; 4 * 1024], vec![0; 2 * 256]);
+    let (mut pairs, mut maps) = (vec![0; PAIR_WORDS * 1024], vec![0; MAP_WORDS * 256]);
     let psbt = Psbt::parse(file, &mut pairs, &mut maps).map_err(|Refused(n)| format!("refused {n}"))?;
     (0..psbt.inputs()).for_each(|i| show_input(&psbt, i));
     match psbt.lock_decided() {

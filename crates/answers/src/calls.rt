@@ -9,9 +9,10 @@ use wire::Cursor;
 use wire::SizeRead;
 ghost use Prim.Native.Nat.{_<_};
 
-// How many calls there are, and how many arguments one has at most.
+// How many calls there are.
 const CALLS: u8 = 55;
 
+// How many arguments a call has at most.
 const MOST: usize = 8;
 
 // A call's number, and where the next one begins: 0 where there is none. The arguments are read beside it.

@@ -54,6 +54,7 @@ fn used_cells(table: &[u32]) -> usize
     0
 }
 
+// The same of bytes.
 fn used_bytes(bytes: &[u8]) -> usize
     ensures { λ r. ⌜ r ≤ length (now (bytes .entry)) ⌝ }
 {

@@ -147,13 +147,14 @@ fn next_record(
     after(stand, record, body)
 }
 
-// The lines end there. Besides, an accepted parse leaves its report, and an accepted setter or transaction its state.
+// The lines end there.
 fn put_to(stand: Stand, at: usize) -> Stand {
     let mut s = stand;
     s.at = at;
     s
 }
 
+// The lines end there, and an accepted parse leaves its report.
 fn parsed(stand: Stand, at: usize, answer: u64, words: [u64; 8]) -> Stand {
     let mut s = put_to(stand, at);
     if answer == 0 {
@@ -162,6 +163,7 @@ fn parsed(stand: Stand, at: usize, answer: u64, words: [u64; 8]) -> Stand {
     s
 }
 
+// The lines end there, and an accepted setter or transaction leaves its state.
 fn went(stand: Stand, at: usize, answer: u64, set: u64, written: u64) -> Stand {
     let mut s = put_to(stand, at);
     if answer == 0 {

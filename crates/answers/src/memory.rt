@@ -1,28 +1,43 @@
 // Memory that records lend. What calls only read stands in one array, its texts: the file, the buffer, the list and the body of
 // the record at hand, one behind the other. What calls write has an array each.
+use format::LIMIT;
 use format::Looked;
 use lookup::part_of;
 use wire::u32_from_le_bytes;
 use wire::u64_from_le_bytes;
 ghost use Prim.Native.Nat.{_≤_};
 
-// What a byte is that nothing was stored in, and a cell of four.
+// What a byte is that nothing was stored in.
 pub const FILL: u8 = 0xa5;
 
+// What a cell of four such bytes is.
 pub const FILL_CELL: u32 = 0xa5a5_a5a5;
 
-// Where the parts of the texts begin. The file is the first.
-pub const BUFFER: usize = 1048577;
+// How many bytes a file has at most that is lent: one more than is read.
+const FILE_MOST: usize = LIMIT + 1;
 
-pub const LIST: usize = 1179649;
+// How many bytes the buffer has at most.
+const BUFFER_MOST: usize = 131072;
 
-pub const BODY: usize = 1191985;
+// How many cells the list has at most.
+const LIST_MOST: usize = 1542;
 
-// The kind of a record whose body is calls; behind it, what stands for the input's end and for a record that is cut.
+// Where the buffer begins in the texts: behind the file, which is first.
+pub const BUFFER: usize = FILE_MOST;
+
+// Where the list begins.
+pub const LIST: usize = BUFFER + BUFFER_MOST;
+
+// Where the body of the record at hand begins.
+pub const BODY: usize = LIST + LIST_MOST * 8;
+
+// The kind of a record whose body is calls.
 pub const CALLS: u8 = 9;
 
+// What stands for the input's end.
 pub const OVER: u8 = 10;
 
+// What stands for a record that is cut.
 pub const CUT: u8 = 11;
 
 // Where the body of a record is read to, how many bytes a cell of its memory has, and how many cells there are at most.
@@ -65,16 +80,16 @@ fn held(from: usize, each: usize, most: usize) -> Memory {
 // The memory of a kind of record.
 fn memory_of(kind: u8) -> Memory {
     match kind {
-        0 => held(0, 1, 1048577),
+        0 => held(0, 1, FILE_MOST),
         1 => held(BODY, 4, 32768),
         2 => held(BODY, 4, 4096),
         3 => held(BODY, 8, 8),
-        4 => held(LIST, 8, 1542),
-        5 => held(BUFFER, 1, 131072),
+        4 => held(LIST, 8, LIST_MOST),
+        5 => held(BUFFER, 1, BUFFER_MOST),
         6 => held(BODY, 1, 17920),
         7 => held(BODY, 1, 65536),
         8 => held(BODY, 8, 2),
-        _ => held(BODY, 1, 1048577),
+        _ => held(BODY, 1, FILE_MOST),
     }
 }
 
@@ -100,13 +115,7 @@ fn is_whole(each: usize, length: usize) -> bool {
 
 // A body of that length fits the room, and that the memory.
 fn fits(m: Memory, room: usize, length: usize) -> bool {
-    if m.most < room {
-        return false;
-    }
-    if size_of(m.each, room) < length {
-        return false;
-    }
-    is_whole(m.each, length)
+    room <= m.most && length <= size_of(m.each, room) && is_whole(m.each, length)
 }
 
 // The little-endian number of four bytes from `at` on.

@@ -5,7 +5,7 @@ use Prim.Native.Nat.{ℕ, suc, _+_, _*_, _≤_}
 use native.Mathlib.Nat.{add-zero, zero-add}
 use native.Mathlib.Omega.{arith}
 use borrow.Author.Tests.{le-ltb}
-use lib.ListN.{length, length-replicate, length-map}
+use lib.ListN.{length, length-map}
 use Rattle.format.specs.Content.{Pair, Map, Content, mapsOf, psbtOf}
 use Rattle.format.specs.Reading.{accepted, refused, reading, events}
 use Rattle.format.specs.Entries.{pairWords, mapWords}
@@ -14,15 +14,17 @@ use Rattle.format.specs.Parse.{ParseOut, out, parsed}
 use Rattle.format.specs.Transaction.{unsignedTx}
 use Rattle.format.specs.declared.PsbtError.{PsbtError}
 use Rattle.format.specs.declared.Parsed.the-variants.{Refused}
-use Rattle.laws.specs.Shown.{bare, viewBy, pairsIn, Room}
-use Rattle.laws.specs.Rooms.{Roomy, pairs#, ended#, answer}
-use Rattle.laws.proofs.Files.{one-plus-counts}
-use Rattle.laws.proofs.Parsed.{parse-is}
-use Rattle.laws.proofs.Rooms.{room-refuses}
-use Rattle.laws.proofs.Shown.{every-call}
-use Rattle.text.specs.Limits.{longest, mostPairs, mostMaps}
+use Rattle.claims_reading.specs.Shown.{bare, viewBy, pairsIn, Room}
+use Rattle.claims_reading.specs.Rooms.{Roomy, pairs#, ended#, answer}
+use Rattle.claims_reading.proofs.Files.{one-plus-counts}
+use Rattle.claims_reading.proofs.Parsed.{parse-is}
+use Rattle.claims_reading.proofs.Rooms.{room-refuses}
+use Rattle.claims_reading.proofs.Shown.{every-call}
+use Rattle.rooms.specs.Limits.{longest, mostPairs, mostMaps}
+use Rattle.rooms.specs.Rooms.{pairRoom, mapRoom, txRoom, fresh}
+use Rattle.rooms.proofs.Zeros.{zeros-long}
 use Rattle.dump_text.specs.Lines.{refusedLine, headLine, mapLine, pairLine, pairsText, mapText, mapThen, mapsText}
-use Rattle.dump_text.specs.Dump.{zeros, pairRoom, mapRoom, txRoom, fresh, txLine, acceptedText, parsedText, dumpIn, dump}
+use Rattle.dump_text.specs.Dump.{txLine, acceptedText, parsedText, dumpIn, dump}
 use Rattle.dump_text.specs.Contents.{mapLines, contentText}
 
 -- a pair's line doesn't ask how its lengths are spelled
@@ -51,7 +53,8 @@ dump-accepted f c P M B e r =
     ap (parsedText B f) (parse-is f c P M e r)
     ∙ every-call f c P M e (λ v. acceptedText v (psbtOf (c .global .pairs)) B)
     ∙ ap (λ (l : List ℕ). headLine (psbtOf (c .global .pairs)) ++ (l ++ txLine (unsignedTx (λ n. viewBy n (mapsOf c)) (psbtOf (c .global .pairs)) fresh [] B)))
-    (ap (mapsText (λ n. viewBy n (mapsOf c)) 0) (sym (one-plus-counts f c e)) ∙ lines-are (λ n. viewBy n (mapsOf c)) 0 (mapsOf c) (λ j. ap (λ (n : ℕ). viewBy n (mapsOf c)) (zero-add j)))
+    (ap (mapsText (λ n. viewBy n (mapsOf c)) 0) (sym (one-plus-counts f c e)) ∙ lines-are (λ n. viewBy n (mapsOf c)) 0 (mapsOf c)
+    (λ j. ap (λ (n : ℕ). viewBy n (mapsOf c)) (zero-add j)))
 
 -- a refused file, with room for what is read before the refusal
 refused-text : (B f : List ℕ) (o : ParseOut) (e : PsbtError) (p m : ℕ) → answer o ≡ Refused e p m → parsedText B f o ≡ refusedLine e
@@ -63,12 +66,10 @@ unfolding dumpIn
 dump-refused f e P M B q r = refused-text B f (parsed f P M) e (pairs# (events f)) (ended# (events f)) (room-refuses f P M e q r)
 
 -- and so of the dump's own rooms
-pub zeros-long : (n : ℕ) → length (zeros n) ≡ n
-unfolding zeros
-zeros-long n = length-replicate n 0
-
-pub dump-is : (f : List ℕ) (c : Content) → reading f ≡ accepted c → length f ≤ longest → pairsIn (mapsOf c) ≤ mostPairs → length (mapsOf c) ≤ mostMaps → dump f ≡ contentText c txRoom
+pub dump-is : (f : List ℕ) (c : Content) → reading f ≡ accepted c → length f ≤ longest → pairsIn (mapsOf c) ≤ mostPairs → length (mapsOf c) ≤ mostMaps
+    → dump f ≡ contentText c txRoom
 unfolding dump
 dump-is f c e h p m =
     rw (le-ltb longest (length f) h)
-    (dump-accepted f c pairRoom mapRoom txRoom e (record { pairs = omega (arith, zeros-long (mostPairs * pairWords)); maps = omega (arith, zeros-long (mostMaps * mapWords)) }))
+    (dump-accepted f c pairRoom mapRoom txRoom e
+    (record { pairs = omega (arith, zeros-long (mostPairs * pairWords)); maps = omega (arith, zeros-long (mostMaps * mapWords)) }))

@@ -25,30 +25,24 @@ use Rattle.text.specs.Spots.{Spot, lay}
 use Rattle.text.specs.Say.{say, newline}
 use Rattle.text.specs.Spelled.{digit, hexByte, hexOrDash, decimal, signedDecimal}
 use Rattle.text.proofs.Lays.{lay-then}
-use Rattle.dump_text.specs.Lines.{sayRefused, sayPsbt, sayInputs, sayOutputs, sayMap, sayPairs, sayUnsigned, refusedLine, versionText, countsText, headLine, mapLine, keyText, pairText, pairLine, unsignedText, unsignedLine, space}
+use Rattle.dump_text.specs.Lines.{sayRefused, sayPsbt, sayUnsigned, refusedLine, versionText, countsText, headLine}
+use Rattle.dump_text.specs.Lines.{keyText, pairText, pairLine, unsignedText, unsignedLine, space}
 
--- a refusal, the head, a map's line
-pub refused-line : (s t₁ t₂ t₃ : Spot) (e : PsbtError) (n : ℕ) → t₁ ≡ lay s sayRefused → n ≡ numberOf e → t₂ ≡ lay t₁ (decimal n) → t₃ ≡ lay t₂ newline → t₃ ≡ lay s (refusedLine e)
+-- a refusal, the head
+pub refused-line : (s t₁ t₂ t₃ : Spot) (e : PsbtError) (n : ℕ) → t₁ ≡ lay s sayRefused → n ≡ numberOf e → t₂ ≡ lay t₁ (decimal n) → t₃ ≡ lay t₂ newline
+    → t₃ ≡ lay s (refusedLine e)
 unfolding refusedLine
 refused-line s t₁ t₂ t₃ e n a q b c = lay-then _ _ _ _ _ a (lay-then _ _ _ _ _ (b ∙ ap (λ (x : ℕ). lay t₁ (decimal x)) q) c)
 
-pub version-text : (s t₁ t₂ : Spot) (z y : ℤ) → SFits w32 z → y ≡ toZ w32 (ofZ w32 z) → t₁ ≡ lay s sayPsbt → t₂ ≡ lay t₁ (signedDecimal y) → t₂ ≡ lay s (versionText z)
+pub version-text : (s t₁ t₂ : Spot) (z y : ℤ) → SFits w32 z → y ≡ toZ w32 (ofZ w32 z) → t₁ ≡ lay s sayPsbt → t₂ ≡ lay t₁ (signedDecimal y)
+    → t₂ ≡ lay s (versionText z)
 unfolding versionText
 version-text s t₁ t₂ z y h q a b = lay-then _ _ _ _ _ a (b ∙ ap (λ (x : ℤ). lay t₁ (signedDecimal x)) (q ∙ toZ-ofZ h))
 
-pub counts-text : (s t₁ t₂ t₃ t₄ t₅ : Spot) (n m : ℕ) → t₁ ≡ lay s sayInputs → t₂ ≡ lay t₁ (decimal n) → t₃ ≡ lay t₂ sayOutputs → t₄ ≡ lay t₃ (decimal m) → t₅ ≡ lay t₄ newline
-    → t₅ ≡ lay s (countsText n m)
-unfolding countsText
-counts-text s t₁ t₂ t₃ t₄ t₅ n m a b c d e = lay-then _ _ _ _ _ a (lay-then _ _ _ _ _ b (lay-then _ _ _ _ _ c (lay-then _ _ _ _ _ d e)))
-
-pub head-line : (s t₁ t₂ : Spot) (x : Psbt) (z : ℤ) → SFits w32 (x .«tx_version») → z ≡ toZ w32 (ofZ w32 (x .«tx_version»)) → t₁ ≡ lay s (versionText z) → t₂ ≡ lay t₁ (countsText (x .inputs) (x .outputs)) → t₂ ≡ lay s (headLine x)
+pub head-line : (s t₁ t₂ : Spot) (x : Psbt) (z : ℤ) → SFits w32 (x .«tx_version») → z ≡ toZ w32 (ofZ w32 (x .«tx_version»)) → t₁ ≡ lay s (versionText z)
+    → t₂ ≡ lay t₁ (countsText (x .inputs) (x .outputs)) → t₂ ≡ lay s (headLine x)
 unfolding headLine
 head-line s t₁ t₂ x z h q a b = lay-then _ _ _ _ _ (a ∙ ap (λ (y : ℤ). lay s (versionText y)) (q ∙ toZ-ofZ h)) b
-
-pub map-line : (s t₁ t₂ t₃ t₄ t₅ : Spot) (m n : ℕ) → t₁ ≡ lay s sayMap → t₂ ≡ lay t₁ (decimal m) → t₃ ≡ lay t₂ sayPairs → t₄ ≡ lay t₃ (decimal n) → t₅ ≡ lay t₄ newline
-    → t₅ ≡ lay s (mapLine m n)
-unfolding mapLine
-map-line s t₁ t₂ t₃ t₄ t₅ m n a b c d e = lay-then _ _ _ _ _ a (lay-then _ _ _ _ _ b (lay-then _ _ _ _ _ c (lay-then _ _ _ _ _ d e)))
 
 -- a key without a byte, and one with
 pub key-none : (s t : Spot) (k : List ℕ) → length k ≡ 0 → t ≡ lay s (say "00 -") → t ≡ lay s (keyText k)
@@ -70,11 +64,8 @@ key-some s t₁ t₂ t₃ k d b h p q x y z =
 
 pub ruleset keys = (key-none, key-some)
 
-pub pair-text : (s t₁ t₂ t₃ t₄ : Spot) (k v : List ℕ) → t₁ ≡ lay s (keyText k) → t₂ ≡ lay t₁ space → t₃ ≡ lay t₂ (hexOrDash v) → t₄ ≡ lay t₃ newline → t₄ ≡ lay s (pairText k v)
-unfolding pairText
-pair-text s t₁ t₂ t₃ t₄ k v a b c d = lay-then _ _ _ _ _ a (lay-then _ _ _ _ _ b (lay-then _ _ _ _ _ c d))
-
-pub entry-line : (s t : Spot) (f k v : List ℕ) (e : PairEntry) → k ≡ keyPart f (N.Is e) → v ≡ valuePart f (N.Is e) → t ≡ lay s (pairText k v) → t ≡ lay s (pairLine (shown f e))
+pub entry-line : (s t : Spot) (f k v : List ℕ) (e : PairEntry) → k ≡ keyPart f (N.Is e) → v ≡ valuePart f (N.Is e) → t ≡ lay s (pairText k v)
+    → t ≡ lay s (pairLine (shown f e))
 unfolding pairLine shown keyPart valuePart
 entry-line s t f k v e p q h = h ∙ ap₂ (λ (a b : List ℕ). lay s (pairText a b)) p q
 
@@ -84,7 +75,8 @@ module _ (s t₁ : Spot) (x : UnsignedTx) (B : List ℕ) (a : t₁ ≡ lay s say
   unfolding unsignedLine unsignedText
   unsigned-refused e q t₂ b = lay-then _ _ _ _ _ a b ∙ rw q
 
-  pub unsigned-written : (n : ℕ) (z : State) → x ≡ Written n z → (b : List ℕ) → b ≡ part B (At 0 n) → (t₂ t₃ : Spot) → t₂ ≡ lay t₁ (hexOrDash b) → t₃ ≡ lay t₂ newline → t₃ ≡ lay s (unsignedLine x B)
+  pub unsigned-written : (n : ℕ) (z : State) → x ≡ Written n z → (b : List ℕ) → b ≡ part B (At 0 n) → (t₂ t₃ : Spot) → t₂ ≡ lay t₁ (hexOrDash b)
+      → t₃ ≡ lay t₂ newline → t₃ ≡ lay s (unsignedLine x B)
   unfolding unsignedLine unsignedText part
   unsigned-written n z q b p t₂ t₃ c d = lay-then _ _ _ _ _ a (lay-then _ _ _ _ _ (c ∙ ap (λ (l : List ℕ). lay t₁ (hexOrDash l)) p) d) ∙ rw q
 

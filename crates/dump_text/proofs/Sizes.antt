@@ -1,5 +1,5 @@
 -- Every dump fits the room that the program has for it.
-use mathlib.Core.Path.{_≡_, refl, sym, _∙_, ap}
+use mathlib.Core.Path.{_≡_, refl, ap}
 use mathlib.Core.List.{List, [], _∷_, _++_, append-nil}
 use Prim.Native.Nat.{ℕ, suc, _+_, _*_, _≤_, _<_}
 use native.Mathlib.Omega.{arith}
@@ -9,9 +9,8 @@ use lib.ListN.{length, drop, length-append}
 use lib.Seq.{take-append-seam}
 use Rattle.format.specs.Keys.{dataOf}
 use Rattle.format.specs.Content.{Pair, Map, Content, mapsOf, pairBytes, pairsBytes, mapBytes, mapsBytes, bytes, psbtOf}
-use Rattle.format.specs.Reading.{FieldRule, two, accepted, reading, events}
+use Rattle.format.specs.Reading.{FieldRule, two, accepted, reading}
 use Rattle.format.specs.Entries.{pairWords, mapWords}
-use Rattle.format.specs.Tables.{mapsReported}
 use Rattle.format.specs.Parse.{ParseOut, out, parsed}
 use Rattle.format.specs.Transaction.{Tx, refuses, writes, TxOut, written, txReported, unsignedTx}
 use Rattle.format.specs.Scripts.{reported}
@@ -23,20 +22,22 @@ use Rattle.format.specs.declared.State.{State}
 use Rattle.format.specs.declared.Parsed.the-variants.{Accepted, Refused}
 use Rattle.format.proofs.Tests.{pick-by}
 use Rattle.format.proofs.Numbers.{All}
-use Rattle.laws.specs.Fine.{Framed, FineMap}
-use Rattle.laws.specs.Shown.{viewBy, pairsIn, Room, Accepts}
-use Rattle.laws.specs.Rooms.{pairs#, begun#, answer}
-use Rattle.laws.proofs.Files.{reading-is, one-plus-counts}
-use Rattle.laws.proofs.Parsed.{accepted-is}
-use Rattle.laws.proofs.Rooms.{room-accepts, accepted-roomy}
+use Rattle.claims_reading.specs.Fine.{Framed, FineMap}
+use Rattle.claims_reading.specs.Shown.{viewBy, pairsIn}
+use Rattle.claims_reading.proofs.Files.{reading-is}
+use Rattle.claims_reading.proofs.Parsed.{accepted-is}
+use Rattle.rooms.specs.Limits.{longest, mostPairs, mostMaps}
+use Rattle.rooms.specs.Rooms.{fresh}
+use Rattle.rooms.proofs.Taken.{room-taken}
+use Rattle.rooms.proofs.Zeros.{zeros-long}
 use Rattle.text.specs.Say.{newline}
-use Rattle.text.specs.Limits.{longest, mostPairs, mostMaps}
 use Rattle.text.specs.Spelled.{hexByte, hexOrDash}
 use Rattle.text.proofs.Sizes.{hex-most, decimal-most, decimal-few, signed-most}
-use Rattle.dump_text.specs.Lines.{refusedLine, versionText, countsText, headLine, mapLine, keyText, pairText, pairLine, pairsText, mapText, unsignedText, unsignedLine}
-use Rattle.dump_text.specs.Dump.{fresh, txLine, parsedText, dumpIn, dump}
+use Rattle.dump_text.specs.Lines.{refusedLine, versionText, countsText, headLine, mapLine, keyText, pairText}
+use Rattle.dump_text.specs.Lines.{pairLine, pairsText, mapText, unsignedText, unsignedLine}
+use Rattle.dump_text.specs.Dump.{txLine, parsedText, dumpIn, longestDump, dump}
 use Rattle.dump_text.specs.Contents.{mapLines, contentText}
-use Rattle.dump_text.proofs.Contents.{zeros-long, dump-accepted}
+use Rattle.dump_text.proofs.Contents.{dump-accepted}
 
 -- a pair's line: two digits for each byte of its key and its value, and five more
 data-length : (k : List ℕ) → 0 < length k → length (dataOf k) + 1 ≡ length k
@@ -71,7 +72,8 @@ map-most m x r h l F =
 
 -- the lines of maps in front of further maps
 maps-most : (ρ : FieldRule) (ms ns : List Map) (m : ℕ) (r : List ℕ) → All (FineMap ρ) ms → m + length ms ≤ 1000 → pairsIn (ms ++ ns) < 10000
-    → length (mapLines m (ms ++ ns)) + 2 * length r + 5 * pairsIn ns ≤ 2 * length (mapsBytes ms r) + 5 * pairsIn (ms ++ ns) + 19 * length ms + length (mapLines (m + length ms) ns)
+    → length (mapLines m (ms ++ ns)) + 2 * length r + 5 * pairsIn ns
+    ≤ 2 * length (mapsBytes ms r) + 5 * pairsIn (ms ++ ns) + 19 * length ms + length (mapLines (m + length ms) ns)
 unfolding mapLines mapsBytes pairsIn
 maps-most ρ [] ns m r h l k = let q : m + 0 ≡ m = omega arith in rw q (omega arith)
 maps-most ρ (x ∷ ms) ns m r h l k =
@@ -86,12 +88,14 @@ unfolding pairsIn
 pairs-behind [] ns = omega arith
 pairs-behind (x ∷ ms) ns = omega (arith, pairs-behind ms ns)
 
-all-maps : (f : List ℕ) (c : Content) → reading f ≡ accepted c → pairsIn (mapsOf c) ≤ mostPairs → length (mapsOf c) ≤ mostMaps → length (mapLines 0 (mapsOf c)) ≤ 2 * length f + 9984
+all-maps : (f : List ℕ) (c : Content) → reading f ≡ accepted c → pairsIn (mapsOf c) ≤ mostPairs → length (mapsOf c) ≤ mostMaps
+    → length (mapLines 0 (mapsOf c)) ≤ 2 * length f + 9984
 unfolding mapsOf bytes mapsBytes pairsIn mapLines
 all-maps f c e p m =
     let i = reading-is f c e in
     let n : length (c .ins ++ c .outs) ≡ length (c .ins) + length (c .outs) = length-append (c .ins) (c .outs) in
-    let g = maps-most (two .global) (c .global ∷ []) (c .ins ++ c .outs) 0 (mapsBytes (c .ins) (mapsBytes (c .outs) [])) (i .1 .global, tt) (omega arith) (omega arith) in
+    let g = maps-most (two .global) (c .global ∷ []) (c .ins ++ c .outs) 0 (mapsBytes (c .ins) (mapsBytes (c .outs) [])) (i .1 .global, tt) (omega arith)
+    (omega arith) in
     let a = maps-most (two .input) (c .ins) (c .outs) 1 (mapsBytes (c .outs) []) (i .1 .ins) (omega arith) (omega arith) in
     let o = rw (append-nil (c .outs)) at (maps-most (two .output) (c .outs) [] (1 + length (c .ins)) [] (i .1 .outs) (omega arith)) in
     let l = ap length (i .0) in
@@ -114,41 +118,37 @@ tx-most t B (writes x) =
     (λ h. rw (take-append-seam x (drop (length x) B)) (omega (arith, length-append (hexOrDash x) newline, hex-most x, leb-true (length x) (length B) h)))
     (λ h. omega (arith, refused-most NoRoom))
 
--- an accepted parse took no more than the room of its tables, so it reports no more maps than these have room for
-room-taken : (f P M : List ℕ) (s : Psbt) (p m : ℕ) (P′ M′ : List ℕ) → parsed f P M ≡ out (Accepted s p m) P′ M′ → (a : Accepts f P M s p m P′ M′) → Room (a .content) P M
-unfolding answer
-room-taken f P M s p m P′ M′ q a =
-    let r = accepted-roomy f P M s p m P′ M′ q in
-    let w : Accepted s p m ≡ Accepted (psbtOf (a .content .global .pairs)) (pairs# (events f)) (begun# (events f)) = sym (ap answer q) ∙ room-accepts f P M (a .content) (a .reads) r in
-    let x : p ≡ pairs# (events f) = cc in
-    let y : m ≡ begun# (events f) = cc in
-    record { pairs = omega (arith, r .pairs, a .pairs); maps = omega (arith, r .maps, a .maps) }
-
-pub reports-few : (f P M : List ℕ) (s : Psbt) (p m : ℕ) (P′ M′ : List ℕ) → parsed f P M ≡ out (Accepted s p m) P′ M′ → mapsReported s * mapWords ≤ length M
-reports-few f P M s p m P′ M′ q =
-    let a = accepted-is f P M s p m P′ M′ q in
-    rw (a .reports) (omega (arith, room-taken f P M s p m P′ M′ q a .maps, one-plus-counts f (a .content) (a .reads)))
-
 -- the text of a file, in rooms of at most the program's
-content-most : (f : List ℕ) (c : Content) (B : List ℕ) → reading f ≡ accepted c → pairsIn (mapsOf c) ≤ mostPairs → length (mapsOf c) ≤ mostMaps → length (contentText c B) ≤ 2 * length f + 2 * length B + 10111
+content-most : (f : List ℕ) (c : Content) (B : List ℕ) → reading f ≡ accepted c → pairsIn (mapsOf c) ≤ mostPairs → length (mapsOf c) ≤ mostMaps
+    → length (contentText c B) ≤ 2 * length f + 2 * length B + 10111
 unfolding contentText unsignedTx
-content-most f c B e p m = simp length-append (omega (arith, all-maps f c e p m, head-most (psbtOf (c .global .pairs)), tx-most fresh B (txReported (psbtOf (c .global .pairs)) fresh [] (reported (λ n. viewBy n (mapsOf c)) (psbtOf (c .global .pairs))))))
+content-most f c B e p m =
+    simp length-append (omega (
+      arith,
+      all-maps f c e p m,
+      head-most (psbtOf (c .global .pairs)),
+      tx-most fresh B
+          (txReported (psbtOf (c .global .pairs)) fresh [] (reported (λ n. viewBy n (mapsOf c)) (psbtOf (c .global .pairs)))),
+    ))
 
-in-most : (P M B f : List ℕ) → length P ≤ mostPairs * pairWords → length M ≤ mostMaps * mapWords → length B ≤ longest → length f ≤ longest → length (dumpIn P M B f) ≤ 272384
+in-most : (P M B f : List ℕ) → length P ≤ mostPairs * pairWords → length M ≤ mostMaps * mapWords → length B ≤ longest → length f ≤ longest
+    → length (dumpIn P M B f) ≤ longestDump
 unfolding dumpIn parsedText
 in-most P M B f hp hm hb hf = by (parsed f P M) refl
   where
-    by : (o : ParseOut) → parsed f P M ≡ o → length (parsedText B f (parsed f P M)) ≤ 272384
+    by : (o : ParseOut) → parsed f P M ≡ o → length (parsedText B f (parsed f P M)) ≤ longestDump
     by (out (Refused e p m) P′ M′) q = rw q (omega (arith, refused-most e))
     by (out (Accepted s p m) P′ M′) q =
         let a = accepted-is f P M s p m P′ M′ q in
         let r = room-taken f P M s p m P′ M′ q a in
-        rw (dump-accepted f (a .content) P M B (a .reads) r) (omega (arith, content-most f (a .content) B (a .reads) (omega (arith, r .pairs)) (omega (arith, r .maps))))
+        rw (dump-accepted f (a .content) P M B (a .reads) r)
+        (omega (arith, content-most f (a .content) B (a .reads) (omega (arith, r .pairs)) (omega (arith, r .maps))))
 
 -- so of every file
-pub dump-fits : (f : List ℕ) → length (dump f) ≤ 272384
+pub dump-fits : (f : List ℕ) → length (dump f) ≤ longestDump
 unfolding dump
 dump-fits f =
-    pick-by (λ (l : List ℕ). length l ≤ 272384) (ltb longest (length f)) _ _
+    pick-by (λ (l : List ℕ). length l ≤ longestDump) (ltb longest (length f)) _ _
     (λ h. omega (arith, refused-most TooLong))
-    (λ h. in-most _ _ _ f (omega (arith, zeros-long (mostPairs * pairWords))) (omega (arith, zeros-long (mostMaps * mapWords))) (omega (arith, zeros-long longest)) (ltb-false longest (length f) h))
+    (λ h. in-most _ _ _ f (omega (arith, zeros-long (mostPairs * pairWords))) (omega (arith, zeros-long (mostMaps * mapWords)))
+    (omega (arith, zeros-long longest)) (ltb-false longest (length f) h))

@@ -23,7 +23,7 @@ use Rattle.fitness.specs.declared.Fit.{Fit}
 use Rattle.fitness.specs.declared.Fit.the-variants.{Refused, Is}
 use Rattle.fitness.proofs.Walks.{run-none, run-one, next-fits}
 use Rattle.fitness.proofs.Maps.{map-held, map-sound}
-use Rattle.all_maps.proofs.Gathers.{at-whole}
+use Rattle.all_maps_fit.proofs.Gathers.{at-whole}
 use Rattle.text.specs.Spots.{Spot, spot, lay}
 use Rattle.text.proofs.Lays.{lay-then}
 use Rattle.dump_text.specs.Lines.{mapLine, pairLine, pairsText, mapText, mapThen, mapsText}
@@ -41,7 +41,8 @@ module _ (at : ℕ) (D₀ f P : List ℕ) (first count to : ℕ) (D : List ℕ) 
   pub list-in : 0 < n → i < pairCount P
   list-in h = omega (arith, k .in-table)
 
-  pub list-more : 0 < n → (e : PairEntry) → e ≡ pairAt P i → (to′ : ℕ) (D′ : List ℕ) → length D′ ≡ length D → spot to′ D′ ≡ lay (spot to D) (pairLine (shown f e))
+  pub list-more : 0 < n → (e : PairEntry) → e ≡ pairAt P i → (to′ : ℕ) (D′ : List ℕ) → length D′ ≡ length D
+      → spot to′ D′ ≡ lay (spot to D) (pairLine (shown f e))
       → Listing at D₀ f P first count to′ D′ (i + 1) (n - 1)
   unfolding pairsText
   list-more h e q to′ D′ l g =
@@ -50,7 +51,8 @@ module _ (at : ℕ) (D₀ f P : List ℕ) (first count to : ℕ) (D : List ℕ) 
         in-table = omega (arith, k .in-table);
         is =
             lay-then _ _ _ _ _ g refl
-            ∙ sym (ap (λ (es : List PairEntry). lay (spot to D) (pairsText (map (shown f) es))) (run-one P i n h (k .in-table) ∙ ap (λ (x : PairEntry). x ∷ run P (i + 1) (n - 1)) (sym q)))
+            ∙ sym (ap (λ (es : List PairEntry). lay (spot to D) (pairsText (map (shown f) es)))
+            (run-one P i n h (k .in-table) ∙ ap (λ (x : PairEntry). x ∷ run P (i + 1) (n - 1)) (sym q)))
             ∙ k .is;
       }
 
@@ -63,7 +65,9 @@ pub ruleset lists = (next-fits, list-first, list-in, list-more, list-done)
 -- a map's line and its pairs' lines
 counts : (f P : List ℕ) (e : MapEntry) → e .first + e .count ≤ pairCount P → length (map (shown f) (entriesOf P e)) ≡ e .count
 unfolding entriesOf run pairCount
-counts f P e h = length-map (entriesOf P e) (shown f) ∙ length-take-le (e .count) (drop (e .first) (pairEntries P)) (rw (length-drop (e .first) (pairEntries P)) (omega arith))
+counts f P e h =
+    length-map (entriesOf P e) (shown f)
+    ∙ length-take-le (e .count) (drop (e .first) (pairEntries P)) (rw (length-drop (e .first) (pairEntries P)) (omega arith))
 
 pub map-text : (s t u : Spot) (f P : List ℕ) (m : ℕ) (e : MapEntry) → e .first + e .count ≤ pairCount P
     → t ≡ lay s (mapLine m (e .count)) → u ≡ lay t (pairsText (map (shown f) (entriesOf P e))) → u ≡ lay s (mapText m (map (shown f) (entriesOf P e)))
@@ -78,7 +82,12 @@ pub record Mapping (at : ℕ) (D₀ f P M : List ℕ) (s : Psbt) (to : ℕ) (D :
 pub maps-first : (at : ℕ) (D f P M : List ℕ) (s : Psbt) → Mapping at D f P M s at D 0
 maps-first at D f P M s = let q : mapsReported s - 0 ≡ mapsReported s = omega arith in record { long = refl; is = rw q }
 
-module _ (at : ℕ) (D₀ f P M : List ℕ) (s : Psbt) (to : ℕ) (D : List ℕ) (m : ℕ) (k : Mapping at D₀ f P M s to D m) (b : Bool) (is : b ≡ ltb m (mapsReported s)) where
+-- the lines of the maps from number m on, put from here, where the fitness of map m is r
+abbrev laid : ℕ → List ℕ → List ℕ → List ℕ → List ℕ → Psbt → ℕ → Fit → Spot
+laid to D f P M s m r = lay (spot to D) (mapThen m (viewOf f (heldOf P r)) (mapsText (view f P M s) (m + 1) (mapsReported s - (m + 1))))
+
+module _ (at : ℕ) (D₀ f P M : List ℕ) (s : Psbt) (to : ℕ) (D : List ℕ) (m : ℕ) (k : Mapping at D₀ f P M s to D m) (b : Bool)
+    (is : b ≡ ltb m (mapsReported s)) where
   pub maps-done : b ≡ false → spot to D ≡ lay (spot at D₀) (mapsText (view f P M s) 0 (mapsReported s))
   unfolding mapsText lay
   maps-done q =
@@ -89,7 +98,7 @@ module _ (at : ℕ) (D₀ f P M : List ℕ) (s : Psbt) (to : ℕ) (D : List ℕ)
     more : m < mapsReported s
     more = ltb-true m (mapsReported s) (sym is ∙ q)
 
-    turn : lay (spot to D) (mapThen m (viewOf f (heldOf P r)) (mapsText (view f P M s) (m + 1) (mapsReported s - (m + 1)))) ≡ lay (spot at D₀) (mapsText (view f P M s) 0 (mapsReported s))
+    turn : laid to D f P M s m r ≡ lay (spot at D₀) (mapsText (view f P M s) 0 (mapsReported s))
     unfolding mapsText view
     turn =
         let n : suc (mapsReported s - (m + 1)) ≡ mapsReported s - m = omega (arith, more) in
@@ -98,7 +107,7 @@ module _ (at : ℕ) (D₀ f P M : List ℕ) (s : Psbt) (to : ℕ) (D : List ℕ)
 
     pub maps-stop : (e : PsbtError) → r ≡ Refused e → spot to D ≡ lay (spot at D₀) (mapsText (view f P M s) 0 (mapsReported s))
     unfolding mapThen viewOf heldOf lay
-    maps-stop e w = sym (ap (λ (r : Fit). lay (spot to D) (mapThen m (viewOf f (heldOf P r)) (mapsText (view f P M s) (m + 1) (mapsReported s - (m + 1))))) w) ∙ turn
+    maps-stop e w = sym (ap (laid to D f P M s m) w) ∙ turn
 
     module _ (x : MapEntry) (w : r ≡ Is x) where
       pub maps-within : x .first + x .count ≤ pairCount P
@@ -110,15 +119,13 @@ module _ (at : ℕ) (D₀ f P M : List ℕ) (s : Psbt) (to : ℕ) (D : List ℕ)
       pub maps-less : mapsReported s - (m + 1) < mapsReported s - m
       maps-less = omega (arith, more)
 
-      pub maps-more : (to′ : ℕ) (D′ : List ℕ) → length D′ ≡ length D → spot to′ D′ ≡ lay (spot to D) (mapText m (map (shown f) (entriesOf P x))) → Mapping at D₀ f P M s to′ D′ (m + 1)
+      pub maps-more : (to′ : ℕ) (D′ : List ℕ) → length D′ ≡ length D → spot to′ D′ ≡ lay (spot to D) (mapText m (map (shown f) (entriesOf P x)))
+          → Mapping at D₀ f P M s to′ D′ (m + 1)
       unfolding mapThen viewOf heldOf
       maps-more to′ D′ l g =
           record {
             long = l ∙ k .long;
-            is =
-                lay-then _ _ _ _ _ g refl
-                ∙ sym (ap (λ (r : Fit). lay (spot to D) (mapThen m (viewOf f (heldOf P r)) (mapsText (view f P M s) (m + 1) (mapsReported s - (m + 1))))) w)
-                ∙ turn;
+            is = lay-then _ _ _ _ _ g refl ∙ sym (ap (laid to D f P M s m) w) ∙ turn;
           }
 
 pub ruleset all-maps = (maps-first, maps-done, maps-stop, maps-within, maps-fits, maps-less, maps-more)

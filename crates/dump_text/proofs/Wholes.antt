@@ -1,9 +1,9 @@
 -- Laws of the whole text: by the parse's answer and by the transaction's.
-use mathlib.Core.Path.{_≡_, refl, sym, _∙_, ap}
+use mathlib.Core.Path.{_≡_, sym, _∙_, ap}
 use mathlib.Core.List.{List, []}
 use Prim.Native.Nat.{ℕ, _≤_, _<_}
 use borrow.Author.Tests.{lt-ltb, le-ltb}
-use lib.ListN.{length, replicate}
+use lib.ListN.{length}
 use Rattle.format.specs.Tables.{View, view, mapsReported}
 use Rattle.format.specs.Parse.{out, parsed}
 use Rattle.format.specs.Transaction.{TxOut, txOut, unsignedTx}
@@ -15,15 +15,17 @@ use Rattle.format.specs.declared.Parsed.{Parsed}
 use Rattle.format.specs.declared.Parsed.the-variants.{Accepted, Refused}
 use Rattle.format.specs.declared.UnsignedTx.{UnsignedTx}
 use Rattle.format.proofs.Told.{parse-out-one, tx-out-one}
+use Rattle.rooms.specs.Limits.{longest}
+use Rattle.rooms.specs.Rooms.{pairRoom, mapRoom, txRoom, fresh}
 use Rattle.text.specs.Spots.{Spot, lay}
-use Rattle.text.specs.Limits.{longest}
 use Rattle.text.proofs.Lays.{lay-then}
 use Rattle.dump_text.specs.Lines.{refusedLine, headLine, mapsText, unsignedLine}
-use Rattle.dump_text.specs.Dump.{zeros, pairRoom, mapRoom, txRoom, fresh, txLine, acceptedText, parsedText, dumpIn, dump}
+use Rattle.dump_text.specs.Dump.{txLine, acceptedText, parsedText, dumpIn, dump}
 
 -- the head, the maps, the last line
 pub accepted-text : (s t₁ t₂ t₃ : Spot) (v : ℕ → View) (x : Psbt) (B B′ : List ℕ) (a : UnsignedTx)
-    → t₁ ≡ lay s (headLine x) → t₂ ≡ lay t₁ (mapsText v 0 (mapsReported x)) → toldLeft (toldTx a) B′ ≡ toldTxOut (unsignedTx v x fresh [] B) → t₃ ≡ lay t₂ (unsignedLine a B′)
+    → t₁ ≡ lay s (headLine x) → t₂ ≡ lay t₁ (mapsText v 0 (mapsReported x)) → toldLeft (toldTx a) B′ ≡ toldTxOut (unsignedTx v x fresh [] B)
+    → t₃ ≡ lay t₂ (unsignedLine a B′)
     → t₃ ≡ lay s (acceptedText v x B)
 unfolding acceptedText txLine toldTxOut
 accepted-text s t₁ t₂ t₃ v x B B′ a p q e r =
@@ -44,11 +46,6 @@ module _ (s t : Spot) (f P M B P′ M′ : List ℕ) (r : Parsed) (e : toldWith 
   parsed-accepted x p m w h = h ∙ ap (lay s) (sym (ap (λ (r : Parsed). parsedText B f (out r P′ M′)) w) ∙ text-is)
 
 pub ruleset by-parse = (parsed-refused, parsed-accepted)
-
--- a room is zeros
-pub room-is : (n : ℕ) → replicate n 0 ≡ zeros n
-unfolding zeros
-room-is n = refl
 
 -- by the file's length
 module _ (s t : Spot) (f : List ℕ) where

@@ -3,9 +3,10 @@ use Prim.Native.Nat.{ℕ, _+_}
 use mathlib.Core.List.{List, [], _∷_, _++_}
 use Rattle.format.specs.Content.{Map, Content, mapsOf, psbtOf}
 use Rattle.format.specs.Transaction.{unsignedTx}
-use Rattle.laws.specs.Shown.{viewBy}
+use Rattle.claims_reading.specs.Shown.{viewBy}
+use Rattle.rooms.specs.Rooms.{fresh}
 use Rattle.dump_text.specs.Lines.{headLine, mapText}
-use Rattle.dump_text.specs.Dump.{fresh, txLine}
+use Rattle.dump_text.specs.Dump.{txLine}
 
 -- the lines of maps, the first of them number m
 unfoldable pub mapLines : ℕ → List Map → List ℕ

@@ -1,40 +1,18 @@
 -- The dump of a file: a text that the file alone decides.
-use Prim.Native.Nat.{ℕ, _*_}
+use Prim.Native.Nat.{ℕ}
 use mathlib.Core.List.{List, [], _++_}
-use mathlib.Core.Bool.{false}
 use lib.Dec.{ltb}
-use lib.ListN.{length, replicate}
+use lib.ListN.{length}
 use Rattle.format.specs.Tests.{pick}
-use Rattle.format.specs.Entries.{pairWords, mapWords}
 use Rattle.format.specs.Tables.{View, view, mapsReported}
 use Rattle.format.specs.Parse.{ParseOut, out, parsed}
 use Rattle.format.specs.Transaction.{TxOut, txOut, unsignedTx}
 use Rattle.format.specs.declared.PsbtError.the-variants.{TooLong}
 use Rattle.format.specs.declared.Psbt.{Psbt}
-use Rattle.format.specs.declared.State.{State}
 use Rattle.format.specs.declared.Parsed.the-variants.{Accepted, Refused}
-use Rattle.text.specs.Limits.{longest, mostPairs, mostMaps}
+use Rattle.rooms.specs.Limits.{longest}
+use Rattle.rooms.specs.Rooms.{pairRoom, mapRoom, txRoom, fresh}
 use Rattle.dump_text.specs.Lines.{refusedLine, headLine, mapsText, unsignedLine}
-
--- lent memory of n numbers, all 0
-unfoldable pub zeros : ℕ → List ℕ
-zeros n = replicate n 0
-
--- room for all pairs, by the words of an entry
-abbrev pub pairRoom : List ℕ
-pairRoom = zeros (mostPairs * pairWords)
-
--- room for all maps
-abbrev pub mapRoom : List ℕ
-mapRoom = zeros (mostMaps * mapWords)
-
--- room for a transaction as long as the longest file
-abbrev pub txRoom : List ℕ
-txRoom = zeros longest
-
--- no scripts set, no transaction written
-abbrev pub fresh : State
-fresh = record { set = false; written = false }
 
 -- the last line, by what the transaction answers and leaves
 unfoldable pub txLine : TxOut → List ℕ
@@ -56,3 +34,7 @@ dumpIn P M B f = parsedText B f (parsed f P M)
 -- the dump: room for 1,024 pairs, 256 maps and 65,536 transaction bytes; a file above 65,536 bytes is too long
 unfoldable pub dump : List ℕ → List ℕ
 dump f = pick (ltb longest (length f)) (refusedLine TooLong) (dumpIn pairRoom mapRoom txRoom f)
+
+-- no dump is longer, in bytes
+abbrev pub longestDump : ℕ
+longestDump = 272_384

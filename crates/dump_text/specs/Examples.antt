@@ -4,14 +4,17 @@ use mathlib.Core.Path.{_≡_, refl}
 use mathlib.Core.List.{List, [], _∷_}
 use Rattle.format.specs.ExampleFiles.{fileE, fileF, fileFWith, script, time}
 use Rattle.format.specs.Computed.{computes}
+use Rattle.rooms.specs.Rooms.{zeros}
 use Rattle.text.specs.Say.{say, lines}
 use Rattle.text.specs.Spelled.{digit, hexByte, hex, hexOrDash, decimalIn, decimal, signedDecimal}
-use Rattle.dump_text.specs.Lines.{refusedLine, versionText, countsText, headLine, mapLine, keyText, pairText, pairLine, pairsText, mapText, mapThen, mapsText, unsignedText, unsignedLine}
-use Rattle.dump_text.specs.Dump.{zeros, txLine, acceptedText, parsedText, dumpIn, dump}
+use Rattle.dump_text.specs.Lines.{refusedLine, versionText, countsText, headLine, mapLine, keyText, pairText, pairLine}
+use Rattle.dump_text.specs.Lines.{pairsText, mapText, mapThen, mapsText, unsignedText, unsignedLine}
+use Rattle.dump_text.specs.Dump.{txLine, acceptedText, parsedText, dumpIn, dump}
 
 -- all that a dump is made of
 unfoldable pub prints : List ℕ → List ℕ
-unfolding computes digit hexByte hex hexOrDash decimalIn decimal signedDecimal refusedLine versionText countsText headLine mapLine keyText pairText pairLine pairsText mapText mapThen mapsText unsignedText unsignedLine zeros txLine acceptedText parsedText dumpIn dump
+unfolding computes digit hexByte hex hexOrDash decimalIn decimal signedDecimal refusedLine versionText countsText headLine
+    mapLine keyText pairText pairLine pairsText mapText mapThen mapsText unsignedText unsignedLine zeros txLine acceptedText parsedText dumpIn dump
 prints = dump
 
 -- the text of E

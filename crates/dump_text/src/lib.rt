@@ -15,6 +15,11 @@ use format::UnsignedTx;
 use lookup::key_part;
 use lookup::part_of;
 use lookup::value_part;
+use rooms::LONGEST;
+use rooms::file_room;
+use rooms::map_room;
+use rooms::pair_room;
+use rooms::tx_room;
 use text::put;
 use text::put_decimal;
 use text::put_hex_byte;
@@ -29,11 +34,12 @@ ghost use Rattle.format.specs.Tables.{view, mapsReported};
 ghost use Rattle.entries.specs.Words.{pairCount};
 ghost use Rattle.fitness.specs.Fits.{entriesOf};
 ghost use Rattle.text.specs.Spots.{spot, lay};
-ghost use Rattle.dump_text.specs.Lines.{refusedLine, versionText, countsText, headLine, mapLine, keyText, pairText, pairLine, pairsText, mapText, mapsText, unsignedLine};
-ghost use Rattle.dump_text.specs.Dump.{pairRoom, mapRoom, txRoom, acceptedText, dumpIn, dump};
+ghost use Rattle.dump_text.specs.Lines.{refusedLine, versionText, countsText, headLine, mapLine, keyText};
+ghost use Rattle.dump_text.specs.Lines.{pairText, pairLine, pairsText, mapText, mapsText, unsignedLine};
+ghost use Rattle.dump_text.specs.Dump.{longestDump, acceptedText, dumpIn, dump};
 
-// The longest file that is dumped, in bytes.
-const MOST: usize = 65536;
+// The longest dump, in bytes.
+const LONGEST_DUMP: usize = 272_384;
 
 // `refused N`
 fn put_refused(out: &mut [u8], at: usize, e: PsbtError) -> usize
@@ -117,7 +123,8 @@ fn put_entry(out: &mut [u8], at: usize, file: &[u8], e: PairEntry) -> usize
 // The lines of a map's pairs.
 fn put_pairs(out: &mut [u8], at: usize, file: &[u8], pairs: &[u32], m: MapEntry) -> usize
     requires { ⌜ m .first + m .count ≤ pairCount (now pairs) ⌝ }
-    ensures { λ r. ⌜ spot r (now (out .exit)) ≡ lay (spot at (now (out .entry))) (pairsText (map (shown (now (file .entry))) (entriesOf (now (pairs .entry)) m))) ⌝ }
+    ensures { λ r. ⌜ spot r (now (out .exit))
+        ≡ lay (spot at (now (out .entry))) (pairsText (map (shown (now (file .entry))) (entriesOf (now (pairs .entry)) m))) ⌝ }
 {
     let mut to = at;
     let mut i = m.first;
@@ -134,7 +141,8 @@ fn put_pairs(out: &mut [u8], at: usize, file: &[u8], pairs: &[u32], m: MapEntry)
 // The lines of map number `m`, by its entry.
 fn put_map(out: &mut [u8], at: usize, file: &[u8], pairs: &[u32], m: u64, e: MapEntry) -> usize
     requires { ⌜ e .first + e .count ≤ pairCount (now pairs) ⌝ }
-    ensures { λ r. ⌜ spot r (now (out .exit)) ≡ lay (spot at (now (out .entry))) (mapText m (map (shown (now (file .entry))) (entriesOf (now (pairs .entry)) e))) ⌝ }
+    ensures { λ r. ⌜ spot r (now (out .exit))
+        ≡ lay (spot at (now (out .entry))) (mapText m (map (shown (now (file .entry))) (entriesOf (now (pairs .entry)) e))) ⌝ }
 {
     let to = put_map_line(out, at, m, e.count);
     put_pairs(out, to, file, pairs, e)
@@ -149,7 +157,8 @@ fn put_maps(
     maps: &[u32],
     psbt: Psbt,
 ) -> usize
-    ensures { λ r. ⌜ spot r (now (out .exit)) ≡ lay (spot at (now (out .entry))) (mapsText (view (now (file .entry)) (now (pairs .entry)) (now (maps .entry)) psbt) 0 (mapsReported psbt)) ⌝ }
+    ensures { λ r. ⌜ spot r (now (out .exit))
+        ≡ lay (spot at (now (out .entry))) (mapsText (view (now (file .entry)) (now (pairs .entry)) (now (maps .entry)) psbt) 0 (mapsReported psbt)) ⌝ }
 {
     let mut to = at;
     let mut m: u64 = 0;
@@ -174,7 +183,7 @@ fn put_unsigned(out: &mut [u8], at: usize, x: UnsignedTx, tx: &[u8]) -> usize
     let to = put(out, at, b"unsigned ");
     match x {
         UnsignedTx::Refused(e) => put_refused(out, to, e),
-        UnsignedTx::Written { len, state: _ } => {
+        UnsignedTx::Written { len, .. } => {
             let bytes = part_of(tx, Looked::At { start: 0, len });
             let to = put_hex_or_dash(out, to, bytes);
             put(out, to, b"\n")
@@ -192,7 +201,8 @@ fn put_accepted(
     psbt: Psbt,
     tx: &mut [u8],
 ) -> usize
-    ensures { λ r. ⌜ spot r (now (out .exit)) ≡ lay (spot at (now (out .entry))) (acceptedText (view (now (file .entry)) (now (pairs .entry)) (now (maps .entry)) psbt) psbt (now (tx .entry))) ⌝ }
+    ensures { λ r. ⌜ spot r (now (out .exit))
+        ≡ lay (spot at (now (out .entry))) (acceptedText (view (now (file .entry)) (now (pairs .entry)) (now (maps .entry)) psbt) psbt (now (tx .entry))) ⌝ }
 {
     let to = put_head(out, at, psbt);
     let to = put_maps(out, to, file, pairs, maps, psbt);
@@ -213,51 +223,20 @@ fn put_parsed(
     maps: &mut [u32],
     tx: &mut [u8],
 ) -> usize
-    ensures { λ r. ⌜ spot r (now (out .exit)) ≡ lay (spot at (now (out .entry))) (dumpIn (now (pairs .entry)) (now (maps .entry)) (now (tx .entry)) (now (file .entry))) ⌝ }
+    ensures { λ r. ⌜ spot r (now (out .exit))
+        ≡ lay (spot at (now (out .entry))) (dumpIn (now (pairs .entry)) (now (maps .entry)) (now (tx .entry)) (now (file .entry))) ⌝ }
 {
     match psbt::parse(file, pairs, maps) {
-        Parsed::Accepted {
-            psbt,
-            pairs: _,
-            maps: _,
-        } => put_accepted(out, at, file, pairs, maps, psbt, tx),
-        Parsed::Refused {
-            error,
-            pairs: _,
-            maps: _,
-        } => put_refused(out, at, error),
+        Parsed::Accepted { psbt, .. } => put_accepted(out, at, file, pairs, maps, psbt, tx),
+        Parsed::Refused { error, .. } => put_refused(out, at, error),
     }
-}
-
-// Room for 1,024 pairs.
-pub fn pair_room() -> [u32; 4096]
-    ensures { λ r. ⌜ r ≡ pairRoom ⌝ }
-    ensures { λ r. ⌜ 4096 ≡ length r ⌝ }
-{
-    [0; 4096]
-}
-
-// Room for 256 maps.
-pub fn map_room() -> [u32; 512]
-    ensures { λ r. ⌜ r ≡ mapRoom ⌝ }
-    ensures { λ r. ⌜ 512 ≡ length r ⌝ }
-{
-    [0; 512]
-}
-
-// Room for the transaction.
-pub fn tx_room() -> [u8; 65536]
-    ensures { λ r. ⌜ r ≡ txRoom ⌝ }
-    ensures { λ r. ⌜ 65536 ≡ length r ⌝ }
-{
-    [0; 65536]
 }
 
 // Puts the text of a file at `at`, as far as there is room, and answers the place behind it.
 pub fn put_dump(out: &mut [u8], at: usize, file: &[u8]) -> usize
     ensures { λ r. ⌜ spot r (now (out .exit)) ≡ lay (spot at (now (out .entry))) (dump (now (file .entry))) ⌝ }
 {
-    if MOST < file.len() {
+    if LONGEST < file.len() {
         return put_refused(out, at, PsbtError::TooLong);
     }
     let mut pairs = pair_room();
@@ -266,23 +245,16 @@ pub fn put_dump(out: &mut [u8], at: usize, file: &[u8]) -> usize
     put_parsed(out, at, file, &mut pairs, &mut maps, &mut tx)
 }
 
-// Room for the longest file and a byte more.
-pub fn file_room() -> [u8; 65537]
-    ensures { λ r. ⌜ 65537 ≡ length r ⌝ }
-{
-    [0; 65537]
-}
-
 // Room for every dump: none is longer (`dump-fits`).
-fn text_room() -> [u8; 272384]
-    ensures { λ r. ⌜ 272384 ≡ length r ⌝ }
+fn text_room() -> [u8; LONGEST_DUMP]
+    ensures { λ r. ⌜ longestDump ≡ length r ⌝ }
 {
-    [0; 272384]
+    [0; LONGEST_DUMP]
 }
 
 // Puts the dump of a file at the front of a room for every dump, where it stands whole, and answers its end.
 fn put_whole(out: &mut [u8], file: &[u8]) -> usize
-    requires { ⌜ 272384 ≤ length (now out) ⌝ }
+    requires { ⌜ longestDump ≤ length (now out) ⌝ }
     ensures { λ r. ⌜ r ≤ length (now (out .exit)) ⌝ }
     ensures { λ r. ⌜ take r (now (out .exit)) ≡ dump (now (file .entry)) ⌝ }
 {

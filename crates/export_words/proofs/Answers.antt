@@ -44,7 +44,8 @@ pub ruleset no-reports = (no-report)
 
 -- of Looked
 module _ (A : List ℕ) (o : Looked) (x : Export) where
-  pub looked-refused : (e : PsbtError) (n : ℕ) → n ≡ numberOf e → o ≡ K.Refused e → x ≡ answeredWith A n (0 ∷ 0 ∷ 0 ∷ 0 ∷ 0 ∷ 0 ∷ 0 ∷ 0 ∷ []) → x ≡ answered A (toldLooked o)
+  pub looked-refused : (e : PsbtError) (n : ℕ) → n ≡ numberOf e
+      → o ≡ K.Refused e → x ≡ answeredWith A n (0 ∷ 0 ∷ 0 ∷ 0 ∷ 0 ∷ 0 ∷ 0 ∷ 0 ∷ []) → x ≡ answered A (toldLooked o)
   unfolding answered toldLooked wordsOf word unsigned
   looked-refused e n k q h = h ∙ sym (rw (q, ← k))
 
@@ -60,7 +61,8 @@ pub ruleset lookeds = (looked-refused, looked-absent, looked-at)
 
 -- of Numbered
 module _ (A : List ℕ) (o : Numbered) (x : Export) where
-  pub numbered-refused : (e : PsbtError) (n : ℕ) → n ≡ numberOf e → o ≡ N.Refused e → x ≡ answeredWith A n (0 ∷ 0 ∷ 0 ∷ 0 ∷ 0 ∷ 0 ∷ 0 ∷ 0 ∷ []) → x ≡ answered A (toldNumbered o)
+  pub numbered-refused : (e : PsbtError) (n : ℕ) → n ≡ numberOf e
+      → o ≡ N.Refused e → x ≡ answeredWith A n (0 ∷ 0 ∷ 0 ∷ 0 ∷ 0 ∷ 0 ∷ 0 ∷ 0 ∷ []) → x ≡ answered A (toldNumbered o)
   unfolding answered toldNumbered wordsOf word unsigned
   numbered-refused e n k q h = h ∙ sym (rw (q, ← k))
 
@@ -76,7 +78,8 @@ pub ruleset numbereds = (numbered-refused, numbered-absent, numbered-is)
 
 -- of Listing
 module _ (A : List ℕ) (o : Listing) (x : Export) where
-  pub listing-refused : (e : PsbtError) (n : ℕ) → n ≡ numberOf e → o ≡ L.Refused e → x ≡ answeredWith A n (0 ∷ 0 ∷ 0 ∷ 0 ∷ 0 ∷ 0 ∷ 0 ∷ 0 ∷ []) → x ≡ answered A (toldListing o)
+  pub listing-refused : (e : PsbtError) (n : ℕ) → n ≡ numberOf e
+      → o ≡ L.Refused e → x ≡ answeredWith A n (0 ∷ 0 ∷ 0 ∷ 0 ∷ 0 ∷ 0 ∷ 0 ∷ 0 ∷ []) → x ≡ answered A (toldListing o)
   unfolding answered toldListing wordsOf word unsigned
   listing-refused e n k q h = h ∙ sym (rw (q, ← k))
 
@@ -88,11 +91,13 @@ pub ruleset listings = (listing-refused, listing-pairs)
 
 -- of Nth
 module _ (A : List ℕ) (o : Nth) (x : Export) where
-  pub nth-refused : (e : PsbtError) (n : ℕ) → n ≡ numberOf e → o ≡ I.Refused e → x ≡ answeredWith A n (0 ∷ 0 ∷ 0 ∷ 0 ∷ 0 ∷ 0 ∷ 0 ∷ 0 ∷ []) → x ≡ answered A (toldNth o)
+  pub nth-refused : (e : PsbtError) (n : ℕ) → n ≡ numberOf e
+      → o ≡ I.Refused e → x ≡ answeredWith A n (0 ∷ 0 ∷ 0 ∷ 0 ∷ 0 ∷ 0 ∷ 0 ∷ 0 ∷ []) → x ≡ answered A (toldNth o)
   unfolding answered toldNth wordsOf word unsigned
   nth-refused e n k q h = h ∙ sym (rw (q, ← k))
 
-  pub nth-is : (e : PairEntry) → o ≡ I.Is e → x ≡ answeredWith A 0 (4 ∷ (e .key) ∷ (e .klen) ∷ (e .value) ∷ (e .vlen) ∷ 0 ∷ 0 ∷ 0 ∷ []) → x ≡ answered A (toldNth o)
+  pub nth-is : (e : PairEntry) → o ≡ I.Is e → x ≡ answeredWith A 0 (4 ∷ (e .key) ∷ (e .klen) ∷ (e .value) ∷ (e .vlen) ∷ 0 ∷ 0 ∷ 0 ∷ [])
+      → x ≡ answered A (toldNth o)
   unfolding answered toldNth wordsOf word unsigned
   nth-is e q h = h ∙ sym (rw q)
 
@@ -100,7 +105,8 @@ pub ruleset nths = (nth-refused, nth-is)
 
 -- of Utxo
 module _ (A : List ℕ) (o : Utxo) (x : Export) where
-  pub utxo-refused : (e : PsbtError) (n : ℕ) → n ≡ numberOf e → o ≡ U.Refused e → x ≡ answeredWith A n (0 ∷ 0 ∷ 0 ∷ 0 ∷ 0 ∷ 0 ∷ 0 ∷ 0 ∷ []) → x ≡ answered A (toldUtxo o)
+  pub utxo-refused : (e : PsbtError) (n : ℕ) → n ≡ numberOf e
+      → o ≡ U.Refused e → x ≡ answeredWith A n (0 ∷ 0 ∷ 0 ∷ 0 ∷ 0 ∷ 0 ∷ 0 ∷ 0 ∷ []) → x ≡ answered A (toldUtxo o)
   unfolding answered toldUtxo wordsOf word unsigned
   utxo-refused e n k q h = h ∙ sym (rw (q, ← k))
 
@@ -116,7 +122,8 @@ pub ruleset utxos = (utxo-refused, utxo-absent, utxo-is)
 
 -- of Lock
 module _ (A : List ℕ) (o : Lock) (x : Export) where
-  pub lock-refused : (e : PsbtError) (n : ℕ) → n ≡ numberOf e → o ≡ D.Refused e → x ≡ answeredWith A n (0 ∷ 0 ∷ 0 ∷ 0 ∷ 0 ∷ 0 ∷ 0 ∷ 0 ∷ []) → x ≡ answered A (toldLock o)
+  pub lock-refused : (e : PsbtError) (n : ℕ) → n ≡ numberOf e
+      → o ≡ D.Refused e → x ≡ answeredWith A n (0 ∷ 0 ∷ 0 ∷ 0 ∷ 0 ∷ 0 ∷ 0 ∷ 0 ∷ []) → x ≡ answered A (toldLock o)
   unfolding answered toldLock wordsOf word unsigned
   lock-refused e n k q h = h ∙ sym (rw (q, ← k))
 
@@ -152,7 +159,8 @@ pub ruleset locks = (lock-refused, lock-height, lock-time, lock-fallback, lock-b
 
 -- of OutputScript
 module _ (A : List ℕ) (o : OutputScript) (x : Export) where
-  pub script-refused : (e : PsbtError) (n : ℕ) → n ≡ numberOf e → o ≡ O.Refused e → x ≡ answeredWith A n (0 ∷ 0 ∷ 0 ∷ 0 ∷ 0 ∷ 0 ∷ 0 ∷ 0 ∷ []) → x ≡ answered A (toldScript o)
+  pub script-refused : (e : PsbtError) (n : ℕ) → n ≡ numberOf e
+      → o ≡ O.Refused e → x ≡ answeredWith A n (0 ∷ 0 ∷ 0 ∷ 0 ∷ 0 ∷ 0 ∷ 0 ∷ 0 ∷ []) → x ≡ answered A (toldScript o)
   unfolding answered toldScript wordsOf word unsigned
   script-refused e n k q h = h ∙ sym (rw (q, ← k))
 
@@ -172,11 +180,13 @@ pub ruleset scripts = (script-refused, script-absent, script-in-file, script-in-
 
 -- of ScriptsSet
 module _ (A : List ℕ) (o : ScriptsSet) (x : Export) where
-  pub set-refused : (e : PsbtError) (n : ℕ) → n ≡ numberOf e → o ≡ S.Refused e → x ≡ answeredWith A n (0 ∷ 0 ∷ 0 ∷ 0 ∷ 0 ∷ 0 ∷ 0 ∷ 0 ∷ []) → x ≡ answered A (toldSet o)
+  pub set-refused : (e : PsbtError) (n : ℕ) → n ≡ numberOf e
+      → o ≡ S.Refused e → x ≡ answeredWith A n (0 ∷ 0 ∷ 0 ∷ 0 ∷ 0 ∷ 0 ∷ 0 ∷ 0 ∷ []) → x ≡ answered A (toldSet o)
   unfolding answered toldSet wordsOf word unsigned
   set-refused e n k q h = h ∙ sym (rw (q, ← k))
 
-  pub set-done : (t : State) (a b : ℕ) → a ≡ word (flag (t .set)) → b ≡ word (flag (t .written)) → o ≡ S.Done t → x ≡ answeredWith A 0 (2 ∷ a ∷ b ∷ 0 ∷ 0 ∷ 0 ∷ 0 ∷ 0 ∷ []) → x ≡ answered A (toldSet o)
+  pub set-done : (t : State) (a b : ℕ) → a ≡ word (flag (t .set))
+      → b ≡ word (flag (t .written)) → o ≡ S.Done t → x ≡ answeredWith A 0 (2 ∷ a ∷ b ∷ 0 ∷ 0 ∷ 0 ∷ 0 ∷ 0 ∷ []) → x ≡ answered A (toldSet o)
   unfolding answered toldSet wordsOf word unsigned
   set-done t a b k l q h = h ∙ sym (rw (q, ← k, ← l))
 
@@ -184,11 +194,13 @@ pub ruleset sets = (set-refused, set-done)
 
 -- of UnsignedTx
 module _ (A : List ℕ) (o : UnsignedTx) (x : Export) where
-  pub tx-refused : (e : PsbtError) (n : ℕ) → n ≡ numberOf e → o ≡ X.Refused e → x ≡ answeredWith A n (0 ∷ 0 ∷ 0 ∷ 0 ∷ 0 ∷ 0 ∷ 0 ∷ 0 ∷ []) → x ≡ answered A (toldTx o)
+  pub tx-refused : (e : PsbtError) (n : ℕ) → n ≡ numberOf e
+      → o ≡ X.Refused e → x ≡ answeredWith A n (0 ∷ 0 ∷ 0 ∷ 0 ∷ 0 ∷ 0 ∷ 0 ∷ 0 ∷ []) → x ≡ answered A (toldTx o)
   unfolding answered toldTx wordsOf word unsigned
   tx-refused e n k q h = h ∙ sym (rw (q, ← k))
 
-  pub tx-written : (n : ℕ) (t : State) (a b : ℕ) → a ≡ word (flag (t .set)) → b ≡ word (flag (t .written)) → o ≡ X.Written n t → x ≡ answeredWith A 0 (3 ∷ n ∷ a ∷ b ∷ 0 ∷ 0 ∷ 0 ∷ 0 ∷ []) → x ≡ answered A (toldTx o)
+  pub tx-written : (n : ℕ) (t : State) (a b : ℕ) → a ≡ word (flag (t .set)) → b ≡ word (flag (t .written))
+      → o ≡ X.Written n t → x ≡ answeredWith A 0 (3 ∷ n ∷ a ∷ b ∷ 0 ∷ 0 ∷ 0 ∷ 0 ∷ []) → x ≡ answered A (toldTx o)
   unfolding answered toldTx wordsOf word unsigned
   tx-written n t a b k l q h = h ∙ sym (rw (q, ← k, ← l))
 
@@ -196,7 +208,8 @@ pub ruleset txs = (tx-refused, tx-written)
 
 -- of Parsed
 pub parsed-report : (A : List ℕ) (x : Export) (s : Psbt) (p m v a b : ℕ) → SFits w32 (s .«tx_version») → v ≡ unsigned (toZ w32 (ofZ w32 (s .«tx_version»)))
-    → a ≡ word (maybeValue (s .«fallback_locktime»)) → b ≡ word (maybeValue (s .«tx_modifiable»)) → x ≡ answeredWith A 0 (7 ∷ v ∷ a ∷ b ∷ (s .inputs) ∷ (s .outputs) ∷ p ∷ m ∷ []) → x ≡ answered A (toldParsed (P.Accepted s p m))
+    → a ≡ word (maybeValue (s .«fallback_locktime»)) → b ≡ word (maybeValue (s .«tx_modifiable»))
+    → x ≡ answeredWith A 0 (7 ∷ v ∷ a ∷ b ∷ (s .inputs) ∷ (s .outputs) ∷ p ∷ m ∷ []) → x ≡ answered A (toldParsed (P.Accepted s p m))
 unfolding answered toldParsed wordsOf word unsigned
 parsed-report A x s p m v a b f k l j h = let e : v ≡ unsigned (s .«tx_version») = k ∙ ap unsigned (toZ-ofZ f) in h ∙ sym (rw (← e, ← l, ← j))
 
@@ -204,7 +217,8 @@ module _ (A : List ℕ) (o : Parsed) (x : Export) where
   pub parsed-accepted : (s : Psbt) (p m : ℕ) → o ≡ P.Accepted s p m → x ≡ answered A (toldParsed (P.Accepted s p m)) → x ≡ answered A (toldParsed o)
   parsed-accepted s p m q h = h ∙ sym (rw q)
 
-  pub parsed-refused : (e : PsbtError) (p m n : ℕ) → n ≡ numberOf e → o ≡ P.Refused e p m → x ≡ answeredWith A n (2 ∷ p ∷ m ∷ 0 ∷ 0 ∷ 0 ∷ 0 ∷ 0 ∷ []) → x ≡ answered A (toldParsed o)
+  pub parsed-refused : (e : PsbtError) (p m n : ℕ) → n ≡ numberOf e
+      → o ≡ P.Refused e p m → x ≡ answeredWith A n (2 ∷ p ∷ m ∷ 0 ∷ 0 ∷ 0 ∷ 0 ∷ 0 ∷ []) → x ≡ answered A (toldParsed o)
   unfolding answered toldParsed wordsOf word unsigned
   parsed-refused e p m n k q h = h ∙ sym (rw (q, ← k))
 

@@ -32,11 +32,13 @@ use Rattle.format.specs.declared.Parsed.the-variants.{Accepted, Refused}
 use Rattle.format.proofs.Numbers.{All, Byte, le-below, all-split}
 use Rattle.format.proofs.Tests.{pick-no, pick-by}
 use Rattle.format.proofs.Keys.{same-is}
-use Rattle.laws.specs.Fine.{Keeps}
-use Rattle.laws.proofs.Files.{reading-is}
-use Rattle.laws.proofs.Parsed.{accepted-is}
+use Rattle.claims_reading.specs.Fine.{Keeps}
+use Rattle.claims_reading.proofs.Files.{reading-is}
+use Rattle.claims_reading.proofs.Parsed.{accepted-is}
 use Rattle.export_words.specs.Fitting.{Narrow, Fitting}
-use Rattle.export_words.specs.Words.{word, wordsOf, wordsTold, answerWords, noValue, maybeOf, psbtIn, isReport, noReport, stateOf, Export, exported, ExportWith, leaves, leavesBoth, answeredWith, answered, asked, askedIn, parseLeft, parseExport, outLeft, outExport}
+use Rattle.export_words.specs.Words.{word, wordsOf, wordsTold, answerWords, noValue, maybeOf, psbtIn, isReport, noReport}
+use Rattle.export_words.specs.Words.{stateOf, Export, exported, ExportWith, leaves, leavesBoth, answeredWith, answered}
+use Rattle.export_words.specs.Words.{asked, askedIn, parseLeft, parseExport, outLeft, outExport}
 
 -- each value that is reported, back from its word
 number-back : (n : ℕ) → n < 2 ^ 32 → maybeOf n ≡ Present n
@@ -160,13 +162,15 @@ slice-left A long (told i vs) n A′ P Q M N e =
     cc
 
 -- the slice of eight words or more that an exported parse leaves
-module _ (f P M A : List ℕ) (n : ℕ) (A′ Q N : List ℕ) (long : answerWords ≤ length A) (e : leavesBoth (exported n A′) Q N ≡ parseExport A P M (toldParse (parsed f P M))) where
+module _ (f P M A : List ℕ) (n : ℕ) (A′ Q N : List ℕ) (long : answerWords ≤ length A)
+    (e : leavesBoth (exported n A′) Q N ≡ parseExport A P M (toldParse (parsed f P M))) where
   leaves-words : (r : Parsed) (P′ M′ : List ℕ) → parsed f P M ≡ out r P′ M′ → A′ ≡ wordsTold (toldParsed r) ++ drop answerWords A
   unfolding parseExport toldParse
   leaves-words r P′ M′ q = slice-left A long (toldParsed r) n A′ P′ Q M′ N (e ∙ rw (q, le-leb answerWords (length A) long))
 
   -- of an accepted parse of a file of bytes: a report, of what was reported
-  pub parse-leaves-report : All Byte f → (s : Psbt) (p m : ℕ) (P′ M′ : List ℕ) → parsed f P M ≡ out (Accepted s p m) P′ M′ → (isReport A′ ≡ true) × (psbtIn A′ ≡ s)
+  pub parse-leaves-report : All Byte f → (s : Psbt) (p m : ℕ) (P′ M′ : List ℕ)
+      → parsed f P M ≡ out (Accepted s p m) P′ M′ → (isReport A′ ≡ true) × (psbtIn A′ ≡ s)
   parse-leaves-report h s p m P′ M′ q =
       rw (leaves-words (Accepted s p m) P′ M′ q) (parse-back f P M h s p m P′ M′ q (drop answerWords A))
 

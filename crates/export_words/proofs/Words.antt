@@ -23,18 +23,18 @@ no-word R k h = sym (List·getD-eq-default R 0 h)
 pub ruleset words = (no-word)
 
 -- a number that may be absent
-pub no-number : (w : ℕ) → w ≡ 18446744073709551615 → Absent ≡ maybeOf w
+pub no-number : (w : ℕ) → w ≡ 0xffff_ffff_ffff_ffff → Absent ≡ maybeOf w
 unfolding maybeOf
 no-number w h = rw (eq-eqb w noValue h)
 
-pub a-number : (w : ℕ) → (w ≡ 18446744073709551615 → ⊥) → Present (w % 4294967296) ≡ maybeOf w
+pub a-number : (w : ℕ) → (w ≡ 0xffff_ffff_ffff_ffff → ⊥) → Present (w % 0x1_0000_0000) ≡ maybeOf w
 unfolding maybeOf
 a-number w h = rw (ne-eqb w noValue h)
 
 pub ruleset maybes = (no-number, a-number)
 
 -- and its word
-pub absent-word : (m : Maybe) → m ≡ Absent → 18446744073709551615 ≡ word (maybeValue m)
+pub absent-word : (m : Maybe) → m ≡ Absent → 0xffff_ffff_ffff_ffff ≡ word (maybeValue m)
 unfolding word maybeValue
 absent-word m q = rw q
 
@@ -61,7 +61,8 @@ module _ (A : List ℕ) (n : ℕ) (ws : List ℕ) where
 pub ruleset puts = (too-short, words-fit, words-put)
 
 -- what a parse reported, word by word
-pub report-is : (R : List ℕ) (v a b i o : ℕ) (z : ℤ) (m n : Maybe) → v ≡ getD R 1 0 → z ≡ signed (v % 4294967296) → a ≡ getD R 2 0 → m ≡ maybeOf a → b ≡ getD R 3 0 → n ≡ maybeOf b
+pub report-is : (R : List ℕ) (v a b i o : ℕ) (z : ℤ) (m n : Maybe)
+    → v ≡ getD R 1 0 → z ≡ signed (v % 0x1_0000_0000) → a ≡ getD R 2 0 → m ≡ maybeOf a → b ≡ getD R 3 0 → n ≡ maybeOf b
     → i ≡ getD R 4 0 → o ≡ getD R 5 0 → record { «tx_version» = z; «fallback_locktime» = m; «tx_modifiable» = n; inputs = i; outputs = o } ≡ psbtIn R
 unfolding psbtIn
 report-is R v a b i o z m n ev ez ea em eb en ei eo = rw (ez, ev, em, ea, en, eb, ei, eo)

@@ -87,10 +87,11 @@ asked R A k = answered A (pick (isReport R) (k (psbtIn R)) noReport)
 unfoldable pub askedIn : ℕ → ℕ → List ℕ → List ℕ → (State → Psbt → Told) → Export
 askedIn set written R A k = asked R A (k (stateOf set written))
 
--- the slice, and lent memory: two tables; one buffer
+-- the slice, and one lent buffer
 pub data ExportWith : Type 0 where
   leaves : Export → List ℕ → ExportWith
 
+-- the slice, and both lent tables
 pub data ExportWithBoth : Type 0 where
   leavesBoth : Export → List ℕ → List ℕ → ExportWithBoth
 

@@ -13,8 +13,10 @@ use format::ScriptsSet;
 use format::State;
 use format::UnsignedTx;
 use format::Utxo;
+use wire::signed;
 use writer::bits_of;
-ghost use Rattle.format.specs.Told.{flag, maybeValue, toldLooked, toldNumbered, toldListing, toldNth, toldUtxo, toldLock, toldScript, toldSet, toldTx, toldParsed};
+ghost use Rattle.format.specs.Told.{flag, maybeValue, toldLooked, toldNumbered, toldListing, toldNth};
+ghost use Rattle.format.specs.Told.{toldUtxo, toldLock, toldScript, toldSet, toldTx, toldParsed};
 ghost use mathlib.Core.Path.{_≡_};
 ghost use Prim.Native.Nat.{_+_, _≤_};
 ghost use lib.ListN.{length, getD};
@@ -35,7 +37,10 @@ const BAD_VALUE: u64 = 7;
 const REPORT_VALUES: u64 = 7;
 
 // The word of a value that is absent.
-const NO_VALUE: u64 = 18446744073709551615;
+const NO_VALUE: u64 = u64::MAX;
+
+// How many numbers 32 bits have: of a word that stands for one of them the lowest 32 bits count.
+const NUMBERS: u64 = 0x1_0000_0000;
 
 // Copies words into a slice.
 fn put_words(buf: &mut [u64], at: usize, src: &[u64])
@@ -67,13 +72,14 @@ fn word(report: &[u64], k: usize) -> u64
     if k < report.len() { report[k] } else { 0 }
 }
 
+// A number that may be absent, from its word.
 fn maybe_of(w: u64) -> Maybe
     ensures { λ r. ⌜ r ≡ maybeOf w ⌝ }
 {
     if w == NO_VALUE {
         Maybe::Absent
     } else {
-        Maybe::Present((w % 4294967296) as u32)
+        Maybe::Present((w % NUMBERS) as u32)
     }
 }
 
@@ -82,7 +88,7 @@ pub fn psbt_of(report: &[u64]) -> Psbt
     ensures { λ r. ⌜ r ≡ psbtIn (now (report .entry)) ⌝ }
 {
     Psbt {
-        tx_version: walk::signed((word(report, 1) % 4294967296) as u32),
+        tx_version: signed((word(report, 1) % NUMBERS) as u32),
         fallback_locktime: maybe_of(word(report, 2)),
         tx_modifiable: maybe_of(word(report, 3)),
         inputs: word(report, 4),
@@ -135,7 +141,7 @@ pub fn put_no_report(answer: &mut [u64]) -> u64
     )
 }
 
-// Each kind of answer: its number, and its values as words.
+// The answer of a lookup.
 pub fn put_looked(answer: &mut [u64], o: Looked) -> u64
     ensures { λ r. ⌜ exported r (now (answer .exit)) ≡ answered (now (answer .entry)) (toldLooked o) ⌝ }
 {
@@ -148,6 +154,7 @@ pub fn put_looked(answer: &mut [u64], o: Looked) -> u64
     }
 }
 
+// The answer of a field that is a number.
 pub fn put_numbered(answer: &mut [u64], o: Numbered) -> u64
     ensures { λ r. ⌜ exported r (now (answer .exit)) ≡ answered (now (answer .entry)) (toldNumbered o) ⌝ }
 {
@@ -158,6 +165,7 @@ pub fn put_numbered(answer: &mut [u64], o: Numbered) -> u64
     }
 }
 
+// The answer of a listing.
 pub fn put_listing(answer: &mut [u64], o: Listing) -> u64
     ensures { λ r. ⌜ exported r (now (answer .exit)) ≡ answered (now (answer .entry)) (toldListing o) ⌝ }
 {
@@ -169,6 +177,7 @@ pub fn put_listing(answer: &mut [u64], o: Listing) -> u64
     }
 }
 
+// The answer of a pair by its number.
 pub fn put_nth(answer: &mut [u64], o: Nth) -> u64
     ensures { λ r. ⌜ exported r (now (answer .exit)) ≡ answered (now (answer .entry)) (toldNth o) ⌝ }
 {
@@ -193,6 +202,7 @@ pub fn put_nth(answer: &mut [u64], o: Nth) -> u64
     }
 }
 
+// The answer of a spent output, read.
 pub fn put_utxo(answer: &mut [u64], o: Utxo) -> u64
     ensures { λ r. ⌜ exported r (now (answer .exit)) ≡ answered (now (answer .entry)) (toldUtxo o) ⌝ }
 {
@@ -205,6 +215,7 @@ pub fn put_utxo(answer: &mut [u64], o: Utxo) -> u64
     }
 }
 
+// The answer of the lock time: a refusal by a rule tells which rule and which input.
 pub fn put_lock(answer: &mut [u64], o: Lock) -> u64
     ensures { λ r. ⌜ exported r (now (answer .exit)) ≡ answered (now (answer .entry)) (toldLock o) ⌝ }
 {
@@ -235,6 +246,7 @@ pub fn put_lock(answer: &mut [u64], o: Lock) -> u64
     }
 }
 
+// The answer of an output's script: whether it stands in the file or in the table of scripts set, and where.
 pub fn put_script(answer: &mut [u64], o: OutputScript) -> u64
     ensures { λ r. ⌜ exported r (now (answer .exit)) ≡ answered (now (answer .entry)) (toldScript o) ⌝ }
 {
@@ -250,6 +262,7 @@ pub fn put_script(answer: &mut [u64], o: OutputScript) -> u64
     }
 }
 
+// The answer of setting scripts.
 pub fn put_set(answer: &mut [u64], o: ScriptsSet) -> u64
     ensures { λ r. ⌜ exported r (now (answer .exit)) ≡ answered (now (answer .entry)) (toldSet o) ⌝ }
 {
@@ -259,6 +272,7 @@ pub fn put_set(answer: &mut [u64], o: ScriptsSet) -> u64
     }
 }
 
+// The answer of writing the transaction.
 pub fn put_tx(answer: &mut [u64], o: UnsignedTx) -> u64
     ensures { λ r. ⌜ exported r (now (answer .exit)) ≡ answered (now (answer .entry)) (toldTx o) ⌝ }
 {
@@ -308,6 +322,7 @@ fn put_accepted(answer: &mut [u64], psbt: Psbt, pairs: usize, maps: usize) -> u6
     )
 }
 
+// The answer of a parse.
 pub fn put_parsed(answer: &mut [u64], o: Parsed) -> u64
     ensures { λ r. ⌜ exported r (now (answer .exit)) ≡ answered (now (answer .entry)) (toldParsed o) ⌝ }
 {

@@ -11,7 +11,8 @@ use Rattle.format.specs.declared.Psbt.{Psbt}
 use Rattle.format.specs.declared.State.{State}
 use Rattle.format.proofs.Tests.{never-true}
 use Rattle.export_words.proofs.Reports.{none-asked, none-asked-in, none-out}
-use Rattle.export_words.specs.Words.{Export, exported, answered, psbtIn, isReport, noReport, stateOf, asked, askedIn, ExportWith, leaves, ExportWithBoth, leavesBoth, parseLeft, parseExport, outLeft, outExport}
+use Rattle.export_words.specs.Words.{Export, exported, answered, psbtIn, isReport, noReport, stateOf, asked, askedIn, ExportWith}
+use Rattle.export_words.specs.Words.{leaves, ExportWithBoth, leavesBoth, parseLeft, parseExport, outLeft, outExport}
 
 -- the words are no report, or are one
 no-report : (q b : Bool) → q ≡ b → not q ≡ true → b ≡ false
@@ -54,7 +55,8 @@ module _ (a b : ℕ) (R A B : List ℕ) (k : State → Psbt → ToldOut) where
     pub out-none : not q ≡ true → x ≡ answered A noReport → leaves x B ≡ outExport a b R A B k
     out-none n e = ap (λ (y : Export). leaves y B) e ∙ sym (none-out R A (no-report q (isReport R) h n) a b B k)
 
-    pub out-by : 8 ≤ length A → not q ≡ false → (z : State) (s : Psbt) (t : Told) (C : List ℕ) → z ≡ stateOf a b → s ≡ psbtIn R → toldLeft t C ≡ k z s → x ≡ answered A t
+    pub out-by : 8 ≤ length A → not q ≡ false → (z : State) (s : Psbt) (t : Told) (C : List ℕ)
+        → z ≡ stateOf a b → s ≡ psbtIn R → toldLeft t C ≡ k z s → x ≡ answered A t
         → leaves x C ≡ outExport a b R A B k
     unfolding outExport outLeft
     out-by l y z s t C w p r e = rw (le-leb 8 (length A) l, a-report q (isReport R) h y) (ap (λ (y : Export). leaves y C) e ∙ ap (outLeft A) (r ∙ ap₂ k w p))

@@ -16,7 +16,11 @@ use export_words::put_tx;
 use export_words::put_utxo;
 use export_words::state_of;
 ghost use mathlib.Core.Path.{_≡_};
-ghost use Rattle.format.specs.Fields.{amount, finalScriptsig, finalScriptwitness, getWitnessUtxo, globalProof, globalShare, inputParticipants, inputProof, inputShare, nonWitnessUtxo, outRedeemScript, outWitnessScript, outputIndex, outputParticipants, partialSig, participant, participantCount, previousTxid, pubNonce, redeemScript, requiredHeightLocktime, requiredTimeLocktime, script, sequence, sighashType, spTweak, spV0Info, spV0Label, witnessScript, witnessUtxo};
+ghost use Rattle.format.specs.Fields.{amount, finalScriptsig, finalScriptwitness, getWitnessUtxo, globalProof, globalShare, inputParticipants};
+ghost use Rattle.format.specs.Fields.{inputProof, inputShare, nonWitnessUtxo, outRedeemScript, outWitnessScript, outputIndex, outputParticipants};
+ghost use Rattle.format.specs.Fields.{partialSig, participant, participantCount, previousTxid, pubNonce, redeemScript, requiredHeightLocktime};
+ghost use Rattle.format.specs.Fields.{requiredTimeLocktime, script, sequence, sighashType, spTweak, spV0Info, spV0Label, witnessScript};
+ghost use Rattle.format.specs.Fields.{witnessUtxo};
 ghost use Rattle.format.specs.Lookups.{list, look, nth};
 ghost use Rattle.format.specs.Parse.{parsed};
 ghost use Rattle.format.specs.Scripts.{flat, setScripts};
@@ -34,7 +38,9 @@ pub extern "C" fn fastpsbt_parse(
     maps: &mut [u32],
     answer: &mut [u64],
 ) -> u64
-    ensures { λ r. ⌜ leavesBoth (exported r (now (answer .exit))) (now (pairs .exit)) (now (maps .exit)) ≡ parseExport (now (answer .entry)) (now (pairs .entry)) (now (maps .entry)) (toldParse (parsed (now (file .entry)) (now (pairs .entry)) (now (maps .entry)))) ⌝ }
+    ensures { λ r. ⌜ leavesBoth (exported r (now (answer .exit))) (now (pairs .exit)) (now (maps .exit))
+        ≡ parseExport (now (answer .entry)) (now (pairs .entry))
+        (now (maps .entry)) (toldParse (parsed (now (file .entry)) (now (pairs .entry)) (now (maps .entry)))) ⌝ }
 {
     if answer.len() < ANSWER {
         return NO_ROOM;
@@ -53,7 +59,9 @@ pub extern "C" fn fastpsbt_lock_decided(
     report: &[u64],
     answer: &mut [u64],
 ) -> u64
-    ensures { λ r. ⌜ exported r (now (answer .exit)) ≡ asked (now (report .entry)) (now (answer .entry)) (λ s. toldLock (lockDecided (view (now (file .entry)) (now (pairs .entry)) (now (maps .entry)) s) s)) ⌝ }
+    ensures { λ r. ⌜ exported r (now (answer .exit))
+        ≡ asked (now (report .entry)) (now (answer .entry))
+        (λ s. toldLock (lockDecided (view (now (file .entry)) (now (pairs .entry)) (now (maps .entry)) s) s)) ⌝ }
 {
     if !is_report(report) {
         return put_no_report(answer);
@@ -78,7 +86,10 @@ pub extern "C" fn fastpsbt_set_sp_output_scripts(
     scripts: &mut [u8],
     answer: &mut [u64],
 ) -> u64
-    ensures { λ r. ⌜ leaves (exported r (now (answer .exit))) (now (scripts .exit)) ≡ outExport set written (now (report .entry)) (now (answer .entry)) (now (scripts .entry)) (λ t s. toldSetOut (setScripts (view (now (file .entry)) (now (pairs .entry)) (now (maps .entry)) s) s (flat (now (list .entry))) (now (buffer .entry)) t (now (scripts .entry)))) ⌝ }
+    ensures { λ r. ⌜ leaves (exported r (now (answer .exit))) (now (scripts .exit))
+        ≡ outExport set written (now (report .entry)) (now (answer .entry)) (now (scripts .entry))
+        (λ t s. toldSetOut (setScripts (view (now (file .entry)) (now (pairs .entry)) (now (maps .entry)) s) s
+        (flat (now (list .entry))) (now (buffer .entry)) t (now (scripts .entry)))) ⌝ }
 {
     if answer.len() < ANSWER {
         return NO_ROOM;
@@ -106,7 +117,10 @@ pub extern "C" fn fastpsbt_unsigned_tx(
     out: &mut [u8],
     answer: &mut [u64],
 ) -> u64
-    ensures { λ r. ⌜ leaves (exported r (now (answer .exit))) (now (out .exit)) ≡ outExport set written (now (report .entry)) (now (answer .entry)) (now (out .entry)) (λ t s. toldTxOut (unsignedTx (view (now (file .entry)) (now (pairs .entry)) (now (maps .entry)) s) s t (now (scripts .entry)) (now (out .entry)))) ⌝ }
+    ensures { λ r. ⌜ leaves (exported r (now (answer .exit))) (now (out .exit))
+        ≡ outExport set written (now (report .entry)) (now (answer .entry)) (now (out .entry))
+        (λ t s. toldTxOut (unsignedTx (view (now (file .entry)) (now (pairs .entry)) (now (maps .entry)) s) s t
+        (now (scripts .entry)) (now (out .entry)))) ⌝ }
 {
     if answer.len() < ANSWER {
         return NO_ROOM;
@@ -132,7 +146,10 @@ pub extern "C" fn fastpsbt_map_get(
     key_data: &[u8],
     answer: &mut [u64],
 ) -> u64
-    ensures { λ r. ⌜ exported r (now (answer .exit)) ≡ asked (now (report .entry)) (now (answer .entry)) (λ s. toldLooked (look (now (file .entry)) «key_type» (now («key_data» .entry)) (held (now (file .entry)) (now (pairs .entry)) (now (maps .entry)) s m))) ⌝ }
+    ensures { λ r. ⌜ exported r (now (answer .exit))
+        ≡ asked (now (report .entry)) (now (answer .entry))
+        (λ s. toldLooked (look (now (file .entry)) «key_type»
+        (now («key_data» .entry)) (held (now (file .entry)) (now (pairs .entry)) (now (maps .entry)) s m))) ⌝ }
 {
     if !is_report(report) {
         return put_no_report(answer);
@@ -153,7 +170,9 @@ pub extern "C" fn fastpsbt_map_list(
     key_type: u8,
     answer: &mut [u64],
 ) -> u64
-    ensures { λ r. ⌜ exported r (now (answer .exit)) ≡ asked (now (report .entry)) (now (answer .entry)) (λ s. toldListing (list (now (file .entry)) «key_type» (held (now (file .entry)) (now (pairs .entry)) (now (maps .entry)) s m))) ⌝ }
+    ensures { λ r. ⌜ exported r (now (answer .exit))
+        ≡ asked (now (report .entry)) (now (answer .entry))
+        (λ s. toldListing (list (now (file .entry)) «key_type» (held (now (file .entry)) (now (pairs .entry)) (now (maps .entry)) s m))) ⌝ }
 {
     if !is_report(report) {
         return put_no_report(answer);
@@ -174,7 +193,9 @@ pub extern "C" fn fastpsbt_map_nth(
     i: usize,
     answer: &mut [u64],
 ) -> u64
-    ensures { λ r. ⌜ exported r (now (answer .exit)) ≡ asked (now (report .entry)) (now (answer .entry)) (λ s. toldNth (nth i (held (now (file .entry)) (now (pairs .entry)) (now (maps .entry)) s m))) ⌝ }
+    ensures { λ r. ⌜ exported r (now (answer .exit))
+        ≡ asked (now (report .entry)) (now (answer .entry))
+        (λ s. toldNth (nth i (held (now (file .entry)) (now (pairs .entry)) (now (maps .entry)) s m))) ⌝ }
 {
     if !is_report(report) {
         return put_no_report(answer);
@@ -194,7 +215,10 @@ pub extern "C" fn fastpsbt_global_get_sp_ecdh_share(
     scan_key: &[u8],
     answer: &mut [u64],
 ) -> u64
-    ensures { λ r. ⌜ exported r (now (answer .exit)) ≡ asked (now (report .entry)) (now (answer .entry)) (λ s. toldLooked (globalShare (now (file .entry)) (now («scan_key» .entry)) (held (now (file .entry)) (now (pairs .entry)) (now (maps .entry)) s 0))) ⌝ }
+    ensures { λ r. ⌜ exported r (now (answer .exit))
+        ≡ asked (now (report .entry)) (now (answer .entry))
+        (λ s. toldLooked (globalShare (now (file .entry))
+        (now («scan_key» .entry)) (held (now (file .entry)) (now (pairs .entry)) (now (maps .entry)) s 0))) ⌝ }
 {
     if !is_report(report) {
         return put_no_report(answer);
@@ -214,7 +238,10 @@ pub extern "C" fn fastpsbt_global_get_sp_dleq_proof(
     scan_key: &[u8],
     answer: &mut [u64],
 ) -> u64
-    ensures { λ r. ⌜ exported r (now (answer .exit)) ≡ asked (now (report .entry)) (now (answer .entry)) (λ s. toldLooked (globalProof (now (file .entry)) (now («scan_key» .entry)) (held (now (file .entry)) (now (pairs .entry)) (now (maps .entry)) s 0))) ⌝ }
+    ensures { λ r. ⌜ exported r (now (answer .exit))
+        ≡ asked (now (report .entry)) (now (answer .entry))
+        (λ s. toldLooked (globalProof (now (file .entry))
+        (now («scan_key» .entry)) (held (now (file .entry)) (now (pairs .entry)) (now (maps .entry)) s 0))) ⌝ }
 {
     if !is_report(report) {
         return put_no_report(answer);
@@ -233,7 +260,9 @@ pub extern "C" fn fastpsbt_global_sp_ecdh_shares(
     report: &[u64],
     answer: &mut [u64],
 ) -> u64
-    ensures { λ r. ⌜ exported r (now (answer .exit)) ≡ asked (now (report .entry)) (now (answer .entry)) (λ s. toldListing (list (now (file .entry)) 0x07 (held (now (file .entry)) (now (pairs .entry)) (now (maps .entry)) s 0))) ⌝ }
+    ensures { λ r. ⌜ exported r (now (answer .exit))
+        ≡ asked (now (report .entry)) (now (answer .entry))
+        (λ s. toldListing (list (now (file .entry)) 0x07 (held (now (file .entry)) (now (pairs .entry)) (now (maps .entry)) s 0))) ⌝ }
 {
     if !is_report(report) {
         return put_no_report(answer);
@@ -252,7 +281,9 @@ pub extern "C" fn fastpsbt_global_sp_dleq_proofs(
     report: &[u64],
     answer: &mut [u64],
 ) -> u64
-    ensures { λ r. ⌜ exported r (now (answer .exit)) ≡ asked (now (report .entry)) (now (answer .entry)) (λ s. toldListing (list (now (file .entry)) 0x08 (held (now (file .entry)) (now (pairs .entry)) (now (maps .entry)) s 0))) ⌝ }
+    ensures { λ r. ⌜ exported r (now (answer .exit))
+        ≡ asked (now (report .entry)) (now (answer .entry))
+        (λ s. toldListing (list (now (file .entry)) 0x08 (held (now (file .entry)) (now (pairs .entry)) (now (maps .entry)) s 0))) ⌝ }
 {
     if !is_report(report) {
         return put_no_report(answer);
@@ -272,7 +303,9 @@ pub extern "C" fn fastpsbt_input_non_witness_utxo(
     i: u64,
     answer: &mut [u64],
 ) -> u64
-    ensures { λ r. ⌜ exported r (now (answer .exit)) ≡ asked (now (report .entry)) (now (answer .entry)) (λ s. toldLooked (nonWitnessUtxo (now (file .entry)) (heldInput (now (file .entry)) (now (pairs .entry)) (now (maps .entry)) s i))) ⌝ }
+    ensures { λ r. ⌜ exported r (now (answer .exit))
+        ≡ asked (now (report .entry)) (now (answer .entry))
+        (λ s. toldLooked (nonWitnessUtxo (now (file .entry)) (heldInput (now (file .entry)) (now (pairs .entry)) (now (maps .entry)) s i))) ⌝ }
 {
     if !is_report(report) {
         return put_no_report(answer);
@@ -292,7 +325,9 @@ pub extern "C" fn fastpsbt_input_witness_utxo(
     i: u64,
     answer: &mut [u64],
 ) -> u64
-    ensures { λ r. ⌜ exported r (now (answer .exit)) ≡ asked (now (report .entry)) (now (answer .entry)) (λ s. toldLooked (witnessUtxo (now (file .entry)) (heldInput (now (file .entry)) (now (pairs .entry)) (now (maps .entry)) s i))) ⌝ }
+    ensures { λ r. ⌜ exported r (now (answer .exit))
+        ≡ asked (now (report .entry)) (now (answer .entry))
+        (λ s. toldLooked (witnessUtxo (now (file .entry)) (heldInput (now (file .entry)) (now (pairs .entry)) (now (maps .entry)) s i))) ⌝ }
 {
     if !is_report(report) {
         return put_no_report(answer);
@@ -312,7 +347,9 @@ pub extern "C" fn fastpsbt_input_sighash_type(
     i: u64,
     answer: &mut [u64],
 ) -> u64
-    ensures { λ r. ⌜ exported r (now (answer .exit)) ≡ asked (now (report .entry)) (now (answer .entry)) (λ s. toldNumbered (sighashType (now (file .entry)) (heldInput (now (file .entry)) (now (pairs .entry)) (now (maps .entry)) s i))) ⌝ }
+    ensures { λ r. ⌜ exported r (now (answer .exit))
+        ≡ asked (now (report .entry)) (now (answer .entry))
+        (λ s. toldNumbered (sighashType (now (file .entry)) (heldInput (now (file .entry)) (now (pairs .entry)) (now (maps .entry)) s i))) ⌝ }
 {
     if !is_report(report) {
         return put_no_report(answer);
@@ -332,7 +369,9 @@ pub extern "C" fn fastpsbt_input_redeem_script(
     i: u64,
     answer: &mut [u64],
 ) -> u64
-    ensures { λ r. ⌜ exported r (now (answer .exit)) ≡ asked (now (report .entry)) (now (answer .entry)) (λ s. toldLooked (redeemScript (now (file .entry)) (heldInput (now (file .entry)) (now (pairs .entry)) (now (maps .entry)) s i))) ⌝ }
+    ensures { λ r. ⌜ exported r (now (answer .exit))
+        ≡ asked (now (report .entry)) (now (answer .entry))
+        (λ s. toldLooked (redeemScript (now (file .entry)) (heldInput (now (file .entry)) (now (pairs .entry)) (now (maps .entry)) s i))) ⌝ }
 {
     if !is_report(report) {
         return put_no_report(answer);
@@ -352,7 +391,9 @@ pub extern "C" fn fastpsbt_input_witness_script(
     i: u64,
     answer: &mut [u64],
 ) -> u64
-    ensures { λ r. ⌜ exported r (now (answer .exit)) ≡ asked (now (report .entry)) (now (answer .entry)) (λ s. toldLooked (witnessScript (now (file .entry)) (heldInput (now (file .entry)) (now (pairs .entry)) (now (maps .entry)) s i))) ⌝ }
+    ensures { λ r. ⌜ exported r (now (answer .exit))
+        ≡ asked (now (report .entry)) (now (answer .entry))
+        (λ s. toldLooked (witnessScript (now (file .entry)) (heldInput (now (file .entry)) (now (pairs .entry)) (now (maps .entry)) s i))) ⌝ }
 {
     if !is_report(report) {
         return put_no_report(answer);
@@ -372,7 +413,9 @@ pub extern "C" fn fastpsbt_input_final_scriptsig(
     i: u64,
     answer: &mut [u64],
 ) -> u64
-    ensures { λ r. ⌜ exported r (now (answer .exit)) ≡ asked (now (report .entry)) (now (answer .entry)) (λ s. toldLooked (finalScriptsig (now (file .entry)) (heldInput (now (file .entry)) (now (pairs .entry)) (now (maps .entry)) s i))) ⌝ }
+    ensures { λ r. ⌜ exported r (now (answer .exit))
+        ≡ asked (now (report .entry)) (now (answer .entry))
+        (λ s. toldLooked (finalScriptsig (now (file .entry)) (heldInput (now (file .entry)) (now (pairs .entry)) (now (maps .entry)) s i))) ⌝ }
 {
     if !is_report(report) {
         return put_no_report(answer);
@@ -392,7 +435,9 @@ pub extern "C" fn fastpsbt_input_final_scriptwitness(
     i: u64,
     answer: &mut [u64],
 ) -> u64
-    ensures { λ r. ⌜ exported r (now (answer .exit)) ≡ asked (now (report .entry)) (now (answer .entry)) (λ s. toldLooked (finalScriptwitness (now (file .entry)) (heldInput (now (file .entry)) (now (pairs .entry)) (now (maps .entry)) s i))) ⌝ }
+    ensures { λ r. ⌜ exported r (now (answer .exit))
+        ≡ asked (now (report .entry)) (now (answer .entry))
+        (λ s. toldLooked (finalScriptwitness (now (file .entry)) (heldInput (now (file .entry)) (now (pairs .entry)) (now (maps .entry)) s i))) ⌝ }
 {
     if !is_report(report) {
         return put_no_report(answer);
@@ -412,7 +457,9 @@ pub extern "C" fn fastpsbt_input_previous_txid(
     i: u64,
     answer: &mut [u64],
 ) -> u64
-    ensures { λ r. ⌜ exported r (now (answer .exit)) ≡ asked (now (report .entry)) (now (answer .entry)) (λ s. toldLooked (previousTxid (now (file .entry)) (heldInput (now (file .entry)) (now (pairs .entry)) (now (maps .entry)) s i))) ⌝ }
+    ensures { λ r. ⌜ exported r (now (answer .exit))
+        ≡ asked (now (report .entry)) (now (answer .entry))
+        (λ s. toldLooked (previousTxid (now (file .entry)) (heldInput (now (file .entry)) (now (pairs .entry)) (now (maps .entry)) s i))) ⌝ }
 {
     if !is_report(report) {
         return put_no_report(answer);
@@ -432,7 +479,9 @@ pub extern "C" fn fastpsbt_input_output_index(
     i: u64,
     answer: &mut [u64],
 ) -> u64
-    ensures { λ r. ⌜ exported r (now (answer .exit)) ≡ asked (now (report .entry)) (now (answer .entry)) (λ s. toldNumbered (outputIndex (now (file .entry)) (heldInput (now (file .entry)) (now (pairs .entry)) (now (maps .entry)) s i))) ⌝ }
+    ensures { λ r. ⌜ exported r (now (answer .exit))
+        ≡ asked (now (report .entry)) (now (answer .entry))
+        (λ s. toldNumbered (outputIndex (now (file .entry)) (heldInput (now (file .entry)) (now (pairs .entry)) (now (maps .entry)) s i))) ⌝ }
 {
     if !is_report(report) {
         return put_no_report(answer);
@@ -452,7 +501,9 @@ pub extern "C" fn fastpsbt_input_sequence(
     i: u64,
     answer: &mut [u64],
 ) -> u64
-    ensures { λ r. ⌜ exported r (now (answer .exit)) ≡ asked (now (report .entry)) (now (answer .entry)) (λ s. toldNumbered (sequence (now (file .entry)) (heldInput (now (file .entry)) (now (pairs .entry)) (now (maps .entry)) s i))) ⌝ }
+    ensures { λ r. ⌜ exported r (now (answer .exit))
+        ≡ asked (now (report .entry)) (now (answer .entry))
+        (λ s. toldNumbered (sequence (now (file .entry)) (heldInput (now (file .entry)) (now (pairs .entry)) (now (maps .entry)) s i))) ⌝ }
 {
     if !is_report(report) {
         return put_no_report(answer);
@@ -472,7 +523,9 @@ pub extern "C" fn fastpsbt_input_required_time_locktime(
     i: u64,
     answer: &mut [u64],
 ) -> u64
-    ensures { λ r. ⌜ exported r (now (answer .exit)) ≡ asked (now (report .entry)) (now (answer .entry)) (λ s. toldNumbered (requiredTimeLocktime (now (file .entry)) (heldInput (now (file .entry)) (now (pairs .entry)) (now (maps .entry)) s i))) ⌝ }
+    ensures { λ r. ⌜ exported r (now (answer .exit))
+        ≡ asked (now (report .entry)) (now (answer .entry))
+        (λ s. toldNumbered (requiredTimeLocktime (now (file .entry)) (heldInput (now (file .entry)) (now (pairs .entry)) (now (maps .entry)) s i))) ⌝ }
 {
     if !is_report(report) {
         return put_no_report(answer);
@@ -492,7 +545,9 @@ pub extern "C" fn fastpsbt_input_required_height_locktime(
     i: u64,
     answer: &mut [u64],
 ) -> u64
-    ensures { λ r. ⌜ exported r (now (answer .exit)) ≡ asked (now (report .entry)) (now (answer .entry)) (λ s. toldNumbered (requiredHeightLocktime (now (file .entry)) (heldInput (now (file .entry)) (now (pairs .entry)) (now (maps .entry)) s i))) ⌝ }
+    ensures { λ r. ⌜ exported r (now (answer .exit))
+        ≡ asked (now (report .entry)) (now (answer .entry))
+        (λ s. toldNumbered (requiredHeightLocktime (now (file .entry)) (heldInput (now (file .entry)) (now (pairs .entry)) (now (maps .entry)) s i))) ⌝ }
 {
     if !is_report(report) {
         return put_no_report(answer);
@@ -512,7 +567,9 @@ pub extern "C" fn fastpsbt_input_sp_tweak(
     i: u64,
     answer: &mut [u64],
 ) -> u64
-    ensures { λ r. ⌜ exported r (now (answer .exit)) ≡ asked (now (report .entry)) (now (answer .entry)) (λ s. toldLooked (spTweak (now (file .entry)) (heldInput (now (file .entry)) (now (pairs .entry)) (now (maps .entry)) s i))) ⌝ }
+    ensures { λ r. ⌜ exported r (now (answer .exit))
+        ≡ asked (now (report .entry)) (now (answer .entry))
+        (λ s. toldLooked (spTweak (now (file .entry)) (heldInput (now (file .entry)) (now (pairs .entry)) (now (maps .entry)) s i))) ⌝ }
 {
     if !is_report(report) {
         return put_no_report(answer);
@@ -533,7 +590,9 @@ pub extern "C" fn fastpsbt_input_iter_keys(
     key_type: u8,
     answer: &mut [u64],
 ) -> u64
-    ensures { λ r. ⌜ exported r (now (answer .exit)) ≡ asked (now (report .entry)) (now (answer .entry)) (λ s. toldListing (list (now (file .entry)) «key_type» (heldInput (now (file .entry)) (now (pairs .entry)) (now (maps .entry)) s i))) ⌝ }
+    ensures { λ r. ⌜ exported r (now (answer .exit))
+        ≡ asked (now (report .entry)) (now (answer .entry))
+        (λ s. toldListing (list (now (file .entry)) «key_type» (heldInput (now (file .entry)) (now (pairs .entry)) (now (maps .entry)) s i))) ⌝ }
 {
     if !is_report(report) {
         return put_no_report(answer);
@@ -553,7 +612,9 @@ pub extern "C" fn fastpsbt_input_bip32_derivations(
     i: u64,
     answer: &mut [u64],
 ) -> u64
-    ensures { λ r. ⌜ exported r (now (answer .exit)) ≡ asked (now (report .entry)) (now (answer .entry)) (λ s. toldListing (list (now (file .entry)) 0x06 (heldInput (now (file .entry)) (now (pairs .entry)) (now (maps .entry)) s i))) ⌝ }
+    ensures { λ r. ⌜ exported r (now (answer .exit))
+        ≡ asked (now (report .entry)) (now (answer .entry))
+        (λ s. toldListing (list (now (file .entry)) 0x06 (heldInput (now (file .entry)) (now (pairs .entry)) (now (maps .entry)) s i))) ⌝ }
 {
     if !is_report(report) {
         return put_no_report(answer);
@@ -574,7 +635,10 @@ pub extern "C" fn fastpsbt_input_get_sp_ecdh_share(
     scan_key: &[u8],
     answer: &mut [u64],
 ) -> u64
-    ensures { λ r. ⌜ exported r (now (answer .exit)) ≡ asked (now (report .entry)) (now (answer .entry)) (λ s. toldLooked (inputShare (now (file .entry)) (now («scan_key» .entry)) (heldInput (now (file .entry)) (now (pairs .entry)) (now (maps .entry)) s i))) ⌝ }
+    ensures { λ r. ⌜ exported r (now (answer .exit))
+        ≡ asked (now (report .entry)) (now (answer .entry))
+        (λ s. toldLooked (inputShare (now (file .entry))
+        (now («scan_key» .entry)) (heldInput (now (file .entry)) (now (pairs .entry)) (now (maps .entry)) s i))) ⌝ }
 {
     if !is_report(report) {
         return put_no_report(answer);
@@ -595,7 +659,10 @@ pub extern "C" fn fastpsbt_input_get_sp_dleq_proof(
     scan_key: &[u8],
     answer: &mut [u64],
 ) -> u64
-    ensures { λ r. ⌜ exported r (now (answer .exit)) ≡ asked (now (report .entry)) (now (answer .entry)) (λ s. toldLooked (inputProof (now (file .entry)) (now («scan_key» .entry)) (heldInput (now (file .entry)) (now (pairs .entry)) (now (maps .entry)) s i))) ⌝ }
+    ensures { λ r. ⌜ exported r (now (answer .exit))
+        ≡ asked (now (report .entry)) (now (answer .entry))
+        (λ s. toldLooked (inputProof (now (file .entry))
+        (now («scan_key» .entry)) (heldInput (now (file .entry)) (now (pairs .entry)) (now (maps .entry)) s i))) ⌝ }
 {
     if !is_report(report) {
         return put_no_report(answer);
@@ -615,7 +682,9 @@ pub extern "C" fn fastpsbt_input_sp_ecdh_shares(
     i: u64,
     answer: &mut [u64],
 ) -> u64
-    ensures { λ r. ⌜ exported r (now (answer .exit)) ≡ asked (now (report .entry)) (now (answer .entry)) (λ s. toldListing (list (now (file .entry)) 0x1d (heldInput (now (file .entry)) (now (pairs .entry)) (now (maps .entry)) s i))) ⌝ }
+    ensures { λ r. ⌜ exported r (now (answer .exit))
+        ≡ asked (now (report .entry)) (now (answer .entry))
+        (λ s. toldListing (list (now (file .entry)) 0x1d (heldInput (now (file .entry)) (now (pairs .entry)) (now (maps .entry)) s i))) ⌝ }
 {
     if !is_report(report) {
         return put_no_report(answer);
@@ -635,7 +704,9 @@ pub extern "C" fn fastpsbt_input_sp_dleq_proofs(
     i: u64,
     answer: &mut [u64],
 ) -> u64
-    ensures { λ r. ⌜ exported r (now (answer .exit)) ≡ asked (now (report .entry)) (now (answer .entry)) (λ s. toldListing (list (now (file .entry)) 0x1e (heldInput (now (file .entry)) (now (pairs .entry)) (now (maps .entry)) s i))) ⌝ }
+    ensures { λ r. ⌜ exported r (now (answer .exit))
+        ≡ asked (now (report .entry)) (now (answer .entry))
+        (λ s. toldListing (list (now (file .entry)) 0x1e (heldInput (now (file .entry)) (now (pairs .entry)) (now (maps .entry)) s i))) ⌝ }
 {
     if !is_report(report) {
         return put_no_report(answer);
@@ -655,7 +726,9 @@ pub extern "C" fn fastpsbt_input_sp_spend_bip32_derivations(
     i: u64,
     answer: &mut [u64],
 ) -> u64
-    ensures { λ r. ⌜ exported r (now (answer .exit)) ≡ asked (now (report .entry)) (now (answer .entry)) (λ s. toldListing (list (now (file .entry)) 0x1f (heldInput (now (file .entry)) (now (pairs .entry)) (now (maps .entry)) s i))) ⌝ }
+    ensures { λ r. ⌜ exported r (now (answer .exit))
+        ≡ asked (now (report .entry)) (now (answer .entry))
+        (λ s. toldListing (list (now (file .entry)) 0x1f (heldInput (now (file .entry)) (now (pairs .entry)) (now (maps .entry)) s i))) ⌝ }
 {
     if !is_report(report) {
         return put_no_report(answer);
@@ -678,7 +751,10 @@ pub extern "C" fn fastpsbt_input_get_musig2_pub_nonce(
     leaf: &[u8],
     answer: &mut [u64],
 ) -> u64
-    ensures { λ r. ⌜ exported r (now (answer .exit)) ≡ asked (now (report .entry)) (now (answer .entry)) (λ s. toldLooked (pubNonce (now (file .entry)) (now (participant .entry)) (now (aggregate .entry)) (now (leaf .entry)) (heldInput (now (file .entry)) (now (pairs .entry)) (now (maps .entry)) s i))) ⌝ }
+    ensures { λ r. ⌜ exported r (now (answer .exit))
+        ≡ asked (now (report .entry)) (now (answer .entry))
+        (λ s. toldLooked (pubNonce (now (file .entry)) (now (participant .entry))
+        (now (aggregate .entry)) (now (leaf .entry)) (heldInput (now (file .entry)) (now (pairs .entry)) (now (maps .entry)) s i))) ⌝ }
 {
     if !is_report(report) {
         return put_no_report(answer);
@@ -710,7 +786,10 @@ pub extern "C" fn fastpsbt_input_get_musig2_partial_sig(
     leaf: &[u8],
     answer: &mut [u64],
 ) -> u64
-    ensures { λ r. ⌜ exported r (now (answer .exit)) ≡ asked (now (report .entry)) (now (answer .entry)) (λ s. toldLooked (partialSig (now (file .entry)) (now (participant .entry)) (now (aggregate .entry)) (now (leaf .entry)) (heldInput (now (file .entry)) (now (pairs .entry)) (now (maps .entry)) s i))) ⌝ }
+    ensures { λ r. ⌜ exported r (now (answer .exit))
+        ≡ asked (now (report .entry)) (now (answer .entry))
+        (λ s. toldLooked (partialSig (now (file .entry)) (now (participant .entry))
+        (now (aggregate .entry)) (now (leaf .entry)) (heldInput (now (file .entry)) (now (pairs .entry)) (now (maps .entry)) s i))) ⌝ }
 {
     if !is_report(report) {
         return put_no_report(answer);
@@ -741,7 +820,10 @@ pub extern "C" fn fastpsbt_input_get_musig2_participant_pubkeys(
     leaf: &[u8],
     answer: &mut [u64],
 ) -> u64
-    ensures { λ r. ⌜ exported r (now (answer .exit)) ≡ asked (now (report .entry)) (now (answer .entry)) (λ s. toldLooked (inputParticipants (now (file .entry)) (now (aggregate .entry)) (now (leaf .entry)) (heldInput (now (file .entry)) (now (pairs .entry)) (now (maps .entry)) s i))) ⌝ }
+    ensures { λ r. ⌜ exported r (now (answer .exit))
+        ≡ asked (now (report .entry)) (now (answer .entry))
+        (λ s. toldLooked (inputParticipants (now (file .entry))
+        (now (aggregate .entry)) (now (leaf .entry)) (heldInput (now (file .entry)) (now (pairs .entry)) (now (maps .entry)) s i))) ⌝ }
 {
     if !is_report(report) {
         return put_no_report(answer);
@@ -771,7 +853,10 @@ pub extern "C" fn fastpsbt_input_get_musig2_participant_count(
     leaf: &[u8],
     answer: &mut [u64],
 ) -> u64
-    ensures { λ r. ⌜ exported r (now (answer .exit)) ≡ asked (now (report .entry)) (now (answer .entry)) (λ s. toldNumbered (participantCount (inputParticipants (now (file .entry)) (now (aggregate .entry)) (now (leaf .entry)) (heldInput (now (file .entry)) (now (pairs .entry)) (now (maps .entry)) s i)))) ⌝ }
+    ensures { λ r. ⌜ exported r (now (answer .exit))
+        ≡ asked (now (report .entry)) (now (answer .entry))
+        (λ s. toldNumbered (participantCount (inputParticipants (now (file .entry))
+        (now (aggregate .entry)) (now (leaf .entry)) (heldInput (now (file .entry)) (now (pairs .entry)) (now (maps .entry)) s i)))) ⌝ }
 {
     if !is_report(report) {
         return put_no_report(answer);
@@ -802,7 +887,10 @@ pub extern "C" fn fastpsbt_input_get_musig2_participant(
     n: usize,
     answer: &mut [u64],
 ) -> u64
-    ensures { λ r. ⌜ exported r (now (answer .exit)) ≡ asked (now (report .entry)) (now (answer .entry)) (λ s. toldLooked (participant n (inputParticipants (now (file .entry)) (now (aggregate .entry)) (now (leaf .entry)) (heldInput (now (file .entry)) (now (pairs .entry)) (now (maps .entry)) s i)))) ⌝ }
+    ensures { λ r. ⌜ exported r (now (answer .exit))
+        ≡ asked (now (report .entry)) (now (answer .entry))
+        (λ s. toldLooked (participant n (inputParticipants (now (file .entry))
+        (now (aggregate .entry)) (now (leaf .entry)) (heldInput (now (file .entry)) (now (pairs .entry)) (now (maps .entry)) s i)))) ⌝ }
 {
     if !is_report(report) {
         return put_no_report(answer);
@@ -822,7 +910,9 @@ pub extern "C" fn fastpsbt_input_get_witness_utxo(
     i: u64,
     answer: &mut [u64],
 ) -> u64
-    ensures { λ r. ⌜ exported r (now (answer .exit)) ≡ asked (now (report .entry)) (now (answer .entry)) (λ s. toldUtxo (getWitnessUtxo (now (file .entry)) (heldInput (now (file .entry)) (now (pairs .entry)) (now (maps .entry)) s i))) ⌝ }
+    ensures { λ r. ⌜ exported r (now (answer .exit))
+        ≡ asked (now (report .entry)) (now (answer .entry))
+        (λ s. toldUtxo (getWitnessUtxo (now (file .entry)) (heldInput (now (file .entry)) (now (pairs .entry)) (now (maps .entry)) s i))) ⌝ }
 {
     if !is_report(report) {
         return put_no_report(answer);
@@ -842,7 +932,9 @@ pub extern "C" fn fastpsbt_output_redeem_script(
     i: u64,
     answer: &mut [u64],
 ) -> u64
-    ensures { λ r. ⌜ exported r (now (answer .exit)) ≡ asked (now (report .entry)) (now (answer .entry)) (λ s. toldLooked (outRedeemScript (now (file .entry)) (heldOutput (now (file .entry)) (now (pairs .entry)) (now (maps .entry)) s i))) ⌝ }
+    ensures { λ r. ⌜ exported r (now (answer .exit))
+        ≡ asked (now (report .entry)) (now (answer .entry))
+        (λ s. toldLooked (outRedeemScript (now (file .entry)) (heldOutput (now (file .entry)) (now (pairs .entry)) (now (maps .entry)) s i))) ⌝ }
 {
     if !is_report(report) {
         return put_no_report(answer);
@@ -862,7 +954,9 @@ pub extern "C" fn fastpsbt_output_witness_script(
     i: u64,
     answer: &mut [u64],
 ) -> u64
-    ensures { λ r. ⌜ exported r (now (answer .exit)) ≡ asked (now (report .entry)) (now (answer .entry)) (λ s. toldLooked (outWitnessScript (now (file .entry)) (heldOutput (now (file .entry)) (now (pairs .entry)) (now (maps .entry)) s i))) ⌝ }
+    ensures { λ r. ⌜ exported r (now (answer .exit))
+        ≡ asked (now (report .entry)) (now (answer .entry))
+        (λ s. toldLooked (outWitnessScript (now (file .entry)) (heldOutput (now (file .entry)) (now (pairs .entry)) (now (maps .entry)) s i))) ⌝ }
 {
     if !is_report(report) {
         return put_no_report(answer);
@@ -882,7 +976,9 @@ pub extern "C" fn fastpsbt_output_amount(
     i: u64,
     answer: &mut [u64],
 ) -> u64
-    ensures { λ r. ⌜ exported r (now (answer .exit)) ≡ asked (now (report .entry)) (now (answer .entry)) (λ s. toldNumbered (amount (now (file .entry)) (heldOutput (now (file .entry)) (now (pairs .entry)) (now (maps .entry)) s i))) ⌝ }
+    ensures { λ r. ⌜ exported r (now (answer .exit))
+        ≡ asked (now (report .entry)) (now (answer .entry))
+        (λ s. toldNumbered (amount (now (file .entry)) (heldOutput (now (file .entry)) (now (pairs .entry)) (now (maps .entry)) s i))) ⌝ }
 {
     if !is_report(report) {
         return put_no_report(answer);
@@ -902,7 +998,9 @@ pub extern "C" fn fastpsbt_output_script(
     i: u64,
     answer: &mut [u64],
 ) -> u64
-    ensures { λ r. ⌜ exported r (now (answer .exit)) ≡ asked (now (report .entry)) (now (answer .entry)) (λ s. toldLooked (script (now (file .entry)) (heldOutput (now (file .entry)) (now (pairs .entry)) (now (maps .entry)) s i))) ⌝ }
+    ensures { λ r. ⌜ exported r (now (answer .exit))
+        ≡ asked (now (report .entry)) (now (answer .entry))
+        (λ s. toldLooked (script (now (file .entry)) (heldOutput (now (file .entry)) (now (pairs .entry)) (now (maps .entry)) s i))) ⌝ }
 {
     if !is_report(report) {
         return put_no_report(answer);
@@ -922,7 +1020,9 @@ pub extern "C" fn fastpsbt_output_sp_v0_info(
     i: u64,
     answer: &mut [u64],
 ) -> u64
-    ensures { λ r. ⌜ exported r (now (answer .exit)) ≡ asked (now (report .entry)) (now (answer .entry)) (λ s. toldLooked (spV0Info (now (file .entry)) (heldOutput (now (file .entry)) (now (pairs .entry)) (now (maps .entry)) s i))) ⌝ }
+    ensures { λ r. ⌜ exported r (now (answer .exit))
+        ≡ asked (now (report .entry)) (now (answer .entry))
+        (λ s. toldLooked (spV0Info (now (file .entry)) (heldOutput (now (file .entry)) (now (pairs .entry)) (now (maps .entry)) s i))) ⌝ }
 {
     if !is_report(report) {
         return put_no_report(answer);
@@ -942,7 +1042,9 @@ pub extern "C" fn fastpsbt_output_sp_v0_label(
     i: u64,
     answer: &mut [u64],
 ) -> u64
-    ensures { λ r. ⌜ exported r (now (answer .exit)) ≡ asked (now (report .entry)) (now (answer .entry)) (λ s. toldNumbered (spV0Label (now (file .entry)) (heldOutput (now (file .entry)) (now (pairs .entry)) (now (maps .entry)) s i))) ⌝ }
+    ensures { λ r. ⌜ exported r (now (answer .exit))
+        ≡ asked (now (report .entry)) (now (answer .entry))
+        (λ s. toldNumbered (spV0Label (now (file .entry)) (heldOutput (now (file .entry)) (now (pairs .entry)) (now (maps .entry)) s i))) ⌝ }
 {
     if !is_report(report) {
         return put_no_report(answer);
@@ -963,7 +1065,9 @@ pub extern "C" fn fastpsbt_output_iter_keys(
     key_type: u8,
     answer: &mut [u64],
 ) -> u64
-    ensures { λ r. ⌜ exported r (now (answer .exit)) ≡ asked (now (report .entry)) (now (answer .entry)) (λ s. toldListing (list (now (file .entry)) «key_type» (heldOutput (now (file .entry)) (now (pairs .entry)) (now (maps .entry)) s i))) ⌝ }
+    ensures { λ r. ⌜ exported r (now (answer .exit))
+        ≡ asked (now (report .entry)) (now (answer .entry))
+        (λ s. toldListing (list (now (file .entry)) «key_type» (heldOutput (now (file .entry)) (now (pairs .entry)) (now (maps .entry)) s i))) ⌝ }
 {
     if !is_report(report) {
         return put_no_report(answer);
@@ -983,7 +1087,9 @@ pub extern "C" fn fastpsbt_output_bip32_derivations(
     i: u64,
     answer: &mut [u64],
 ) -> u64
-    ensures { λ r. ⌜ exported r (now (answer .exit)) ≡ asked (now (report .entry)) (now (answer .entry)) (λ s. toldListing (list (now (file .entry)) 0x02 (heldOutput (now (file .entry)) (now (pairs .entry)) (now (maps .entry)) s i))) ⌝ }
+    ensures { λ r. ⌜ exported r (now (answer .exit))
+        ≡ asked (now (report .entry)) (now (answer .entry))
+        (λ s. toldListing (list (now (file .entry)) 0x02 (heldOutput (now (file .entry)) (now (pairs .entry)) (now (maps .entry)) s i))) ⌝ }
 {
     if !is_report(report) {
         return put_no_report(answer);
@@ -1004,7 +1110,10 @@ pub extern "C" fn fastpsbt_output_get_musig2_participant_pubkeys(
     aggregate: &[u8],
     answer: &mut [u64],
 ) -> u64
-    ensures { λ r. ⌜ exported r (now (answer .exit)) ≡ asked (now (report .entry)) (now (answer .entry)) (λ s. toldLooked (outputParticipants (now (file .entry)) (now (aggregate .entry)) (heldOutput (now (file .entry)) (now (pairs .entry)) (now (maps .entry)) s i))) ⌝ }
+    ensures { λ r. ⌜ exported r (now (answer .exit))
+        ≡ asked (now (report .entry)) (now (answer .entry))
+        (λ s. toldLooked (outputParticipants (now (file .entry))
+        (now (aggregate .entry)) (heldOutput (now (file .entry)) (now (pairs .entry)) (now (maps .entry)) s i))) ⌝ }
 {
     if !is_report(report) {
         return put_no_report(answer);
@@ -1025,7 +1134,10 @@ pub extern "C" fn fastpsbt_output_get_musig2_participant_count(
     aggregate: &[u8],
     answer: &mut [u64],
 ) -> u64
-    ensures { λ r. ⌜ exported r (now (answer .exit)) ≡ asked (now (report .entry)) (now (answer .entry)) (λ s. toldNumbered (participantCount (outputParticipants (now (file .entry)) (now (aggregate .entry)) (heldOutput (now (file .entry)) (now (pairs .entry)) (now (maps .entry)) s i)))) ⌝ }
+    ensures { λ r. ⌜ exported r (now (answer .exit))
+        ≡ asked (now (report .entry)) (now (answer .entry))
+        (λ s. toldNumbered (participantCount (outputParticipants (now (file .entry))
+        (now (aggregate .entry)) (heldOutput (now (file .entry)) (now (pairs .entry)) (now (maps .entry)) s i)))) ⌝ }
 {
     if !is_report(report) {
         return put_no_report(answer);
@@ -1047,7 +1159,10 @@ pub extern "C" fn fastpsbt_output_get_musig2_participant(
     n: usize,
     answer: &mut [u64],
 ) -> u64
-    ensures { λ r. ⌜ exported r (now (answer .exit)) ≡ asked (now (report .entry)) (now (answer .entry)) (λ s. toldLooked (participant n (outputParticipants (now (file .entry)) (now (aggregate .entry)) (heldOutput (now (file .entry)) (now (pairs .entry)) (now (maps .entry)) s i)))) ⌝ }
+    ensures { λ r. ⌜ exported r (now (answer .exit))
+        ≡ asked (now (report .entry)) (now (answer .entry))
+        (λ s. toldLooked (participant n (outputParticipants (now (file .entry))
+        (now (aggregate .entry)) (heldOutput (now (file .entry)) (now (pairs .entry)) (now (maps .entry)) s i)))) ⌝ }
 {
     if !is_report(report) {
         return put_no_report(answer);
@@ -1070,7 +1185,10 @@ pub extern "C" fn fastpsbt_output_output_script(
     i: u64,
     answer: &mut [u64],
 ) -> u64
-    ensures { λ r. ⌜ exported r (now (answer .exit)) ≡ askedIn set written (now (report .entry)) (now (answer .entry)) (λ t s. toldScript (outputScript (now (file .entry)) t (now (scripts .entry)) i (heldOutput (now (file .entry)) (now (pairs .entry)) (now (maps .entry)) s i))) ⌝ }
+    ensures { λ r. ⌜ exported r (now (answer .exit))
+        ≡ askedIn set written (now (report .entry)) (now (answer .entry))
+        (λ t s. toldScript (outputScript (now (file .entry)) t
+        (now (scripts .entry)) i (heldOutput (now (file .entry)) (now (pairs .entry)) (now (maps .entry)) s i))) ⌝ }
 {
     if !is_report(report) {
         return put_no_report(answer);

@@ -26,7 +26,8 @@ pub mod output;
 // Parses a file: four words for each pair go into `pairs`, two for each map into `maps`. It reports the global fields and how many entries
 // are used; a refusal too reports these, and leaves the entries of pairs accepted and maps ended before it.
 pub fn parse(file: &[u8], pairs: &mut [u32], maps: &mut [u32]) -> Parsed
-    ensures { λ r. ⌜ toldWith (toldParsed r) (now (pairs .exit)) (now (maps .exit)) ≡ toldParse (parsed (now (file .entry)) (now (pairs .entry)) (now (maps .entry))) ⌝ }
+    ensures { λ r. ⌜ toldWith (toldParsed r) (now (pairs .exit)) (now (maps .exit))
+        ≡ toldParse (parsed (now (file .entry)) (now (pairs .entry)) (now (maps .entry))) ⌝ }
 {
     psbt::parse(file, pairs, maps)
 }
@@ -58,7 +59,9 @@ pub fn set_sp_output_scripts(
     state: State,
     scripts: &mut [u8],
 ) -> ScriptsSet
-    ensures { λ r. ⌜ toldLeft (toldSet r) (now (scripts .exit)) ≡ toldSetOut (setScripts (view (now (file .entry)) (now (pairs .entry)) (now (maps .entry)) psbt) psbt (flat (now (list .entry))) (now (buffer .entry)) state (now (scripts .entry))) ⌝ }
+    ensures { λ r. ⌜ toldLeft (toldSet r) (now (scripts .exit))
+        ≡ toldSetOut (setScripts (view (now (file .entry)) (now (pairs .entry)) (now (maps .entry)) psbt) psbt
+        (flat (now (list .entry))) (now (buffer .entry)) state (now (scripts .entry))) ⌝ }
 {
     setter::set_sp_output_scripts(file, pairs, maps, psbt, list, buffer, state, scripts)
 }
@@ -74,7 +77,9 @@ pub fn unsigned_tx(
     scripts: &[u8],
     out: &mut [u8],
 ) -> UnsignedTx
-    ensures { λ r. ⌜ toldLeft (toldTx r) (now (out .exit)) ≡ toldTxOut (unsignedTx (view (now (file .entry)) (now (pairs .entry)) (now (maps .entry)) psbt) psbt state (now (scripts .entry)) (now (out .entry))) ⌝ }
+    ensures { λ r. ⌜ toldLeft (toldTx r) (now (out .exit))
+        ≡ toldTxOut (unsignedTx (view (now (file .entry)) (now (pairs .entry)) (now (maps .entry)) psbt) psbt state
+        (now (scripts .entry)) (now (out .entry))) ⌝ }
 {
     unsigned_tx::unsigned_tx(file, pairs, maps, psbt, state, scripts, out)
 }

@@ -18,7 +18,9 @@ pub fn get(
     key_type: u8,
     key_data: &[u8],
 ) -> Looked
-    ensures { λ r. ⌜ toldLooked r ≡ toldLooked (look (now (file .entry)) «key_type» (now («key_data» .entry)) (held (now (file .entry)) (now (pairs .entry)) (now (maps .entry)) psbt m)) ⌝ }
+    ensures { λ r. ⌜ toldLooked r
+        ≡ toldLooked (look (now (file .entry)) «key_type»
+        (now («key_data» .entry)) (held (now (file .entry)) (now (pairs .entry)) (now (maps .entry)) psbt m)) ⌝ }
 {
     lookup::get(file, pairs, maps, psbt, m, key_type, key_data)
 }
@@ -33,14 +35,17 @@ pub fn get_part<'a>(
     key_type: u8,
     key_data: &[u8],
 ) -> &'a [u8]
-    ensures { λ r. ⌜ now r ≡ part (now (file .entry)) (look (now (file .entry)) «key_type» (now («key_data» .entry)) (held (now (file .entry)) (now (pairs .entry)) (now (maps .entry)) psbt m)) ⌝ }
+    ensures { λ r. ⌜ now r
+        ≡ part (now (file .entry))
+        (look (now (file .entry)) «key_type» (now («key_data» .entry)) (held (now (file .entry)) (now (pairs .entry)) (now (maps .entry)) psbt m)) ⌝ }
 {
     lookup::get_part(file, pairs, maps, psbt, m, key_type, key_data)
 }
 
 // The pairs of a type: the first one's number in the map, or where it would stand, and how many they are.
 pub fn list(file: &[u8], pairs: &[u32], maps: &[u32], psbt: Psbt, m: u64, key_type: u8) -> Listing
-    ensures { λ r. ⌜ toldListing r ≡ toldListing (list (now (file .entry)) «key_type» (held (now (file .entry)) (now (pairs .entry)) (now (maps .entry)) psbt m)) ⌝ }
+    ensures { λ r. ⌜ toldListing r
+        ≡ toldListing (list (now (file .entry)) «key_type» (held (now (file .entry)) (now (pairs .entry)) (now (maps .entry)) psbt m)) ⌝ }
 {
     lookup::list(file, pairs, maps, psbt, m, key_type)
 }

@@ -23,7 +23,7 @@ module _ (r : SizedType) (n m : ℕ) where
   unfolding isKept
   kept-bare h = rw h
 
-  pub kept-not : r .bare ≡ false → false ≡ isKept r n
+  pub kept-not : r .bare ≡ false → r .bare ≡ isKept r n
   unfolding isKept
   kept-not h = rw h
 
@@ -31,7 +31,7 @@ module _ (r : SizedType) (n m : ℕ) where
   unfolding bothFit
   fit-value h b e = rw (eq-eqb n (r .dlen) h) e
 
-  pub fit-not : (n ≡ r .dlen → ⊥) → false ≡ bothFit r n m
+  pub fit-not : (n ≡ r .dlen → ⊥) → eqb n (r .dlen) ≡ bothFit r n m
   unfolding bothFit
   fit-not h = rw (ne-eqb n (r .dlen) h)
 
@@ -75,7 +75,8 @@ pub row-first : (rs : List SizedType) (k t n m : ℕ) → From rs k t n m 0
 row-first rs k t n m = refl
 
 module _ (rs : List SizedType) (k t n m i : ℕ) (on : From rs k t n m i) where
-  pub row-found : i < length rs → (b : Bool) → b ≡ isRow (getD rs i none) k t → b ≡ true → (r : Ruled) → r ≡ rowRule (getD rs i none) n m → r ≡ sizesIn rs k t n m
+  pub row-found : i < length rs → (b : Bool) → b ≡ isRow (getD rs i none) k t
+      → b ≡ true → (r : Ruled) → r ≡ rowRule (getD rs i none) n m → r ≡ sizesIn rs k t n m
   row-found h b e q r w = w ∙ found rs k t n m i h b e q ∙ on
 
   pub row-passed : i < length rs → (b : Bool) → b ≡ isRow (getD rs i none) k t → b ≡ false → From rs k t n m (i + 1)

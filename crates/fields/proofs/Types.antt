@@ -53,7 +53,8 @@ unfolding hasType sizesIn
 untyped [] k t n m e = refl
 untyped (r ∷ rs) k t n m e = by (eqb (r .tag) t) refl e (λ h. untyped rs k t n m h)
   where
-    by : (x : Bool) → eqb (r .tag) t ≡ x → pick x true (hasType rs t) ≡ false → (hasType rs t ≡ false → sizesIn rs k t n m ≡ Passed) → sizesIn (r ∷ rs) k t n m ≡ Passed
+    by : (x : Bool) → eqb (r .tag) t ≡ x → pick x true (hasType rs t) ≡ false
+        → (hasType rs t ≡ false → sizesIn rs k t n m ≡ Passed) → sizesIn (r ∷ rs) k t n m ≡ Passed
     by true q h go = let z : _≡_ {A = ℕ} 0 1 = cc in absurd (omega arith)
     by false q h go = pick-no _ _ _ (other-row r k t q) ∙ go h
 

@@ -179,11 +179,7 @@ const SIZED_TYPES: [SizedType; 19] = [
 fn is_row(row: SizedType, kind: u8, key_type: u8) -> bool
     ensures { λ r. ⌜ r ≡ isRow row kind «key_type» ⌝ }
 {
-    if row.kind == kind {
-        row.tag == key_type
-    } else {
-        false
-    }
+    row.kind == kind && row.tag == key_type
 }
 
 // A value has the length that a row asks.
@@ -193,29 +189,21 @@ fn value_fits(asked: u8, value_len: usize) -> bool
     if asked != ORIGIN {
         return value_len == asked as usize;
     }
-    if 4 <= value_len {
-        value_len % 4 == 0
-    } else {
-        false
-    }
+    4 <= value_len && value_len % 4 == 0
 }
 
 // A row does not speak of a key: the row is bare and the key has data.
 fn is_kept(row: SizedType, key_data_len: usize) -> bool
     ensures { λ r. ⌜ r ≡ isKept row «key_data_len» ⌝ }
 {
-    if row.bare { key_data_len != 0 } else { false }
+    row.bare && key_data_len != 0
 }
 
 // Both lengths are those of a row.
 fn both_fit(row: SizedType, key_data_len: usize, value_len: usize) -> bool
     ensures { λ r. ⌜ r ≡ bothFit row «key_data_len» «value_len» ⌝ }
 {
-    if key_data_len == row.dlen as usize {
-        value_fits(row.vlen, value_len)
-    } else {
-        false
-    }
+    key_data_len == row.dlen as usize && value_fits(row.vlen, value_len)
 }
 
 // What a row says of a pair's lengths.
@@ -283,11 +271,7 @@ pub fn check_sizes(kind: u8, key_type: u8, key_data_len: usize, value_len: usize
 fn is_count(key_type: u8) -> bool
     ensures { λ r. ⌜ r ≡ isCount «key_type» ⌝ }
 {
-    if key_type == PSBT_GLOBAL_INPUT_COUNT {
-        true
-    } else {
-        key_type == PSBT_GLOBAL_OUTPUT_COUNT
-    }
+    key_type == PSBT_GLOBAL_INPUT_COUNT || key_type == PSBT_GLOBAL_OUTPUT_COUNT
 }
 
 // What is asked of a count field's value.
@@ -318,11 +302,7 @@ fn bare_rule(key_type: u8, value_len: usize, front: &[u8]) -> Ruled
 fn is_bare(kind: u8, key_data_len: usize) -> bool
     ensures { λ r. ⌜ r ≡ isBare kind «key_data_len» ⌝ }
 {
-    if kind == GLOBAL {
-        key_data_len == 0
-    } else {
-        false
-    }
+    kind == GLOBAL && key_data_len == 0
 }
 
 // The field rule of a pair, by its lengths and its value's first nine bytes, or more of them.

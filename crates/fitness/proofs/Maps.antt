@@ -53,9 +53,9 @@ pub ruleset named-entries = (first-far, end-far, named-in, named-fit, named-unfi
 
 -- a map's number, against a sum that may not fit
 module _ (s : Psbt) (m : ℕ) where
-  pub reported-low : m ≤ s .inputs → true ≡ ltb m (mapsReported s)
+  pub reported-low : m ≤ s .inputs → leb m (s .inputs) ≡ ltb m (mapsReported s)
   unfolding mapsReported
-  reported-low h = sym (lt-ltb m (1 + (s .inputs + s .outputs)) (omega arith))
+  reported-low h = le-leb m (s .inputs) h ∙ sym (lt-ltb m (1 + (s .inputs + s .outputs)) (omega arith))
 
   pub reported-high : s .inputs < m → leb (m - s .inputs) (s .outputs) ≡ ltb m (mapsReported s)
   unfolding mapsReported

@@ -34,14 +34,10 @@ module _ (f : List ℕ) (a n : ℕ) where
 
 pub ruleset parts = (part-none, part-rest, part-all)
 
--- an order, by the case that it is
-pub below-by : (o x : Order) (b : Bool) → o ≡ x → b ≡ isBelow x → b ≡ isBelow o
-below-by o x b e h = h ∙ sym (ap isBelow e)
-
 -- a sum that may not fit
 module _ (L a n : ℕ) where
-  pub lies-past : L < a → false ≡ leb (a + n) L
-  lies-past h = sym (lt-leb (a + n) L (omega arith))
+  pub lies-past : L < a → leb a L ≡ leb (a + n) L
+  lies-past h = lt-leb a L h ∙ sym (lt-leb (a + n) L (omega arith))
 
   pub lies-by : a ≤ L → leb n (L - a) ≡ leb (a + n) L
   lies-by h = by (leb n (L - a)) refl
@@ -54,14 +50,14 @@ pub ruleset lying = (lies-past, lies-by)
 
 -- an entry in the file
 module _ (f : List ℕ) (e : PairEntry) (k : Bool) (is : k ≡ leb (e .key + e .klen) (length f)) where
-  pub key-out : k ≡ false → false ≡ inFile f e
+  pub key-out : k ≡ false → k ≡ inFile f e
   unfolding inFile
-  key-out q = rw (sym is ∙ q)
+  key-out q = q ∙ rw (sym is ∙ q)
 
   module _ (q : k ≡ true) (v : Bool) (also : v ≡ leb (e .value + e .vlen) (length f)) where
-    pub value-out : v ≡ false → false ≡ inFile f e
+    pub value-out : v ≡ false → v ≡ inFile f e
     unfolding inFile
-    value-out w = rw (sym is ∙ q, sym also ∙ w)
+    value-out w = w ∙ rw (sym is ∙ q, sym also ∙ w)
 
     pub both-in : v ≡ true → ltb 0 (e .klen) ≡ inFile f e
     unfolding inFile
@@ -71,9 +67,9 @@ pub ruleset inside = (key-out, value-out, both-in)
 
 -- an entry behind another
 module _ (f : List ℕ) (last e : PairEntry) (i : Bool) (is : i ≡ inFile f e) where
-  pub one-out : i ≡ false → false ≡ fitOne f last e
+  pub one-out : i ≡ false → i ≡ fitOne f last e
   unfolding fitOne
-  one-out q = rw (sym is ∙ q)
+  one-out q = q ∙ rw (sym is ∙ q)
 
   pub one-in : i ≡ true → (r : Bool) (o : Order) (a b : List ℕ) → r ≡ isBelow o → o ≡ order a b → a ≡ keyIn f last → b ≡ keyIn f e → r ≡ fitOne f last e
   unfolding fitOne below

@@ -42,13 +42,15 @@ unfoldable pub fitBy : List ℕ → List ℕ → List MapEntry → Fit
 fitBy f P [] = Refused BadIndex
 fitBy f P (m ∷ ms) = fitEntry f P m
 
--- map number m, input number i and output number i
+-- map number m
 unfoldable pub fitAt : List ℕ → List ℕ → List ℕ → Psbt → ℕ → Fit
 fitAt f P M s m = pick (ltb m (mapsReported s)) (fitBy f P (drop m (mapEntries M))) (Refused OutOfRange)
 
+-- input number i
 unfoldable pub fitInput : List ℕ → List ℕ → List ℕ → Psbt → ℕ → Fit
 fitInput f P M s i = pick (ltb i (s .inputs)) (fitAt f P M s (1 + i)) (Refused OutOfRange)
 
+-- output number i
 unfoldable pub fitOutput : List ℕ → List ℕ → List ℕ → Psbt → ℕ → Fit
 fitOutput f P M s i = pick (ltb i (s .outputs)) (fitAt f P M s (1 + (s .inputs + i))) (Refused OutOfRange)
 

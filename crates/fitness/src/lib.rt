@@ -1,6 +1,5 @@
 // Whether a map of lent tables is fit to be asked, whatever they hold, and the parts of the file that its entries name.
 use format::MapEntry;
-use format::Order;
 use format::PairEntry;
 use format::Psbt;
 use format::PsbtError;
@@ -9,7 +8,6 @@ ghost use mathlib.Core.List.{[]};
 ghost use Prim.Native.Nat.{_+_, _≤_};
 ghost use lib.Dec.{leb, ltb};
 ghost use lib.ListN.{length};
-ghost use Rattle.format.specs.Keys.{isBelow};
 ghost use Rattle.format.specs.Entries.{keyIn, valueIn};
 ghost use Rattle.format.specs.Tables.{inFile, fit, mapsReported};
 ghost use Rattle.entries.specs.Words.{pairCount};
@@ -21,9 +19,6 @@ pub enum Fit {
     Refused(PsbtError),
     Is(MapEntry),
 }
-
-// The greatest map number that a caller can ask.
-const GREATEST: u64 = 18446744073709551615;
 
 // `len` bytes from `start` on, or as many as there are.
 pub fn bytes_at(file: &[u8], start: usize, len: usize) -> &[u8]
@@ -38,65 +33,39 @@ pub fn bytes_at(file: &[u8], start: usize, len: usize) -> &[u8]
     &file[start..start + len]
 }
 
-// The key and the value that an entry names.
+// The key that an entry names.
 pub fn key_in(file: &[u8], e: PairEntry) -> &[u8]
     ensures { λ r. ⌜ now r ≡ keyIn (now (file .entry)) e ⌝ }
 {
     bytes_at(file, e.key, e.klen)
 }
 
+// The value that an entry names.
 pub fn value_in(file: &[u8], e: PairEntry) -> &[u8]
     ensures { λ r. ⌜ now r ≡ valueIn (now (file .entry)) e ⌝ }
 {
     bytes_at(file, e.value, e.vlen)
 }
 
-// An order is that of a smaller key to a greater one.
-pub fn is_below(o: Order) -> bool
-    ensures { λ r. ⌜ r ≡ isBelow o ⌝ }
-{
-    match o {
-        Order::Below => true,
-        Order::Same => false,
-        Order::Above => false,
-    }
-}
-
 // `len` bytes from `start` on lie in the file.
 fn lies(file: &[u8], start: usize, len: usize) -> bool
     ensures { λ r. ⌜ r ≡ leb (start + len) (length (now (file .entry))) ⌝ }
 {
-    if file.len() < start {
-        false
-    } else {
-        len <= file.len() - start
-    }
+    start <= file.len() && len <= file.len() - start
 }
 
 // An entry's key and value lie in the file, and its key is not empty.
 fn in_file(file: &[u8], e: PairEntry) -> bool
     ensures { λ r. ⌜ r ≡ inFile (now (file .entry)) e ⌝ }
 {
-    if lies(file, e.key, e.klen) {
-        if lies(file, e.value, e.vlen) {
-            0 < e.klen
-        } else {
-            false
-        }
-    } else {
-        false
-    }
+    lies(file, e.key, e.klen) && (lies(file, e.value, e.vlen) && 0 < e.klen)
 }
 
 // An entry is fit behind the entry `last`.
 fn fit_one(file: &[u8], last: PairEntry, e: PairEntry) -> bool
     ensures { λ r. ⌜ r ≡ fitOne (now (file .entry)) last e ⌝ }
 {
-    if in_file(file, e) {
-        is_below(keys::compare(key_in(file, last), key_in(file, e)))
-    } else {
-        false
-    }
+    in_file(file, e) && keys::is_below(keys::compare(key_in(file, last), key_in(file, e)))
 }
 
 // The pairs of a map are all fit.
@@ -147,11 +116,7 @@ fn fit_entry(file: &[u8], pairs: &[u32], m: MapEntry) -> Fit
 pub fn is_reported(psbt: Psbt, m: u64) -> bool
     ensures { λ r. ⌜ r ≡ ltb m (mapsReported psbt) ⌝ }
 {
-    if m <= psbt.inputs {
-        true
-    } else {
-        m - psbt.inputs <= psbt.outputs
-    }
+    m <= psbt.inputs || m - psbt.inputs <= psbt.outputs
 }
 
 // Why a map that the table doesn't have is refused: its number comes before its entry.
@@ -181,7 +146,7 @@ pub fn fit_map(file: &[u8], pairs: &[u32], maps: &[u32], psbt: Psbt, m: u64) -> 
     }
 }
 
-// Input number `i`, and output number `i`.
+// Input number `i`.
 pub fn fit_input(file: &[u8], pairs: &[u32], maps: &[u32], psbt: Psbt, i: u64) -> Fit
     ensures { λ r. ⌜ r ≡ fitInput (now (file .entry)) (now (pairs .entry)) (now (maps .entry)) psbt i ⌝ }
 {
@@ -192,6 +157,7 @@ pub fn fit_input(file: &[u8], pairs: &[u32], maps: &[u32], psbt: Psbt, i: u64) -
     }
 }
 
+// Output number `i`.
 pub fn fit_output(file: &[u8], pairs: &[u32], maps: &[u32], psbt: Psbt, i: u64) -> Fit
     ensures { λ r. ⌜ r ≡ fitOutput (now (file .entry)) (now (pairs .entry)) (now (maps .entry)) psbt i ⌝ }
 {
@@ -199,7 +165,7 @@ pub fn fit_output(file: &[u8], pairs: &[u32], maps: &[u32], psbt: Psbt, i: u64) 
         return Fit::Refused(PsbtError::OutOfRange);
     }
     // No table has so many entries.
-    if GREATEST - psbt.inputs <= i {
+    if u64::MAX - psbt.inputs <= i {
         return Fit::Refused(PsbtError::BadIndex);
     }
     fit_map(file, pairs, maps, psbt, 1 + (psbt.inputs + i))

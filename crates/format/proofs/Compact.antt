@@ -88,7 +88,8 @@ unfolding shortest size sizeBy
 shortest-spells n h =
     pick-by (λ (s : List ℕ). Spells s n) (ltb n 0xfd) _ _ (λ q. rw q)
     (λ q. pick-by (λ (s : List ℕ). Spells s n) (ltb n 0x1_0000) _ _ (λ t. long-back 2 n (omega (arith, ltb-true n 0x1_0000 t)))
-    (λ t. pick-by (λ (s : List ℕ). Spells s n) (ltb n 0x1_0000_0000) _ _ (λ v. long-back 4 n (omega (arith, ltb-true n 0x1_0000_0000 v))) (λ v. long-back 8 n h)))
+    (λ t. pick-by (λ (s : List ℕ). Spells s n) (ltb n 0x1_0000_0000) _ _
+    (λ v. long-back 4 n (omega (arith, ltb-true n 0x1_0000_0000 v))) (λ v. long-back 8 n h)))
 
 -- and is read back with what follows it left
 pub size-shortest : (n : ℕ) (r : List ℕ) → n < 2 ^ 64 → size (shortest n ++ r) ≡ Read n (length (shortest n))

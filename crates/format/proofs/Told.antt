@@ -11,9 +11,14 @@ use Rattle.format.specs.Tests.{pick}
 use Rattle.format.specs.Parse.{ParseOut, out}
 use Rattle.format.specs.Scripts.{SetOut, setOut}
 use Rattle.format.specs.Transaction.{TxOut, txOut}
-use Rattle.format.specs.Told.{Value, none, int, flag, Told, told, maybeValue, toldParsed, toldLooked, toldNumbered, toldListing, toldNth, toldUtxo, toldLock, toldSet, toldTx, toldScript, toldParse, toldSetOut, toldTxOut}
+use Rattle.format.specs.Told.{Value, none, int, flag, Told, told, maybeValue, toldParsed, toldLooked, toldNumbered, toldListing}
+use Rattle.format.specs.Told.{toldNth, toldUtxo, toldLock, toldSet, toldTx, toldScript, toldParse, toldSetOut, toldTxOut}
 use Rattle.format.specs.declared.PsbtError.{PsbtError}
-use Rattle.format.specs.declared.PsbtError.the-variants.{InvalidMagic, UnexpectedEof, InvalidCompactSize, MapTerminatorMissing, DuplicateKey, UnsortedKeys, BadValue, MissingCounts, MissingOutputIndex, MissingRedeemScript, MissingWitnessScript, CountsTooLarge, NotAllowed, OutOfRange, UnknownOutputType, Unsupported, MissingOutputScript, InvalidSilentPayment, InvalidOutputScripts, InvalidSighashType, TooLong, PairsFull, MapsFull, BadIndex, NoRoom}
+use Rattle.format.specs.declared.PsbtError.the-variants.{InvalidMagic, UnexpectedEof, InvalidCompactSize, MapTerminatorMissing, DuplicateKey}
+use Rattle.format.specs.declared.PsbtError.the-variants.{UnsortedKeys, BadValue, MissingCounts, MissingOutputIndex, MissingRedeemScript}
+use Rattle.format.specs.declared.PsbtError.the-variants.{MissingWitnessScript, CountsTooLarge, NotAllowed, OutOfRange, UnknownOutputType}
+use Rattle.format.specs.declared.PsbtError.the-variants.{Unsupported, MissingOutputScript, InvalidSilentPayment, InvalidOutputScripts}
+use Rattle.format.specs.declared.PsbtError.the-variants.{InvalidSighashType, TooLong, PairsFull, MapsFull, BadIndex, NoRoom}
 use Rattle.format.specs.declared.Ruled.{Ruled}
 use Rattle.format.specs.declared.Ruled.the-variants.{Passed, Refused}
 use Rattle.format.specs.declared.Maybe.{Maybe}
@@ -42,10 +47,12 @@ use Rattle.format.specs.declared.OutputScript.the-variants as O
 -- the refusal of a number, 0 for none
 errors : List Ruled
 errors =
-    Passed ∷ Refused InvalidMagic ∷ Refused UnexpectedEof ∷ Refused InvalidCompactSize ∷ Refused MapTerminatorMissing ∷ Refused DuplicateKey ∷ Refused UnsortedKeys ∷ Refused BadValue
-    ∷ Refused MissingCounts ∷ Refused MissingOutputIndex ∷ Refused MissingRedeemScript ∷ Refused MissingWitnessScript ∷ Refused CountsTooLarge ∷ Refused NotAllowed ∷ Refused OutOfRange
-    ∷ Refused UnknownOutputType ∷ Refused Unsupported ∷ Refused MissingOutputScript ∷ Refused InvalidSilentPayment ∷ Refused InvalidOutputScripts ∷ Refused InvalidSighashType
-    ∷ Refused TooLong ∷ Refused PairsFull ∷ Refused MapsFull ∷ Refused BadIndex ∷ Refused NoRoom ∷ []
+    Passed ∷ Refused InvalidMagic ∷ Refused UnexpectedEof ∷ Refused InvalidCompactSize ∷ Refused MapTerminatorMissing
+    ∷ Refused DuplicateKey ∷ Refused UnsortedKeys ∷ Refused BadValue ∷ Refused MissingCounts ∷ Refused MissingOutputIndex
+    ∷ Refused MissingRedeemScript ∷ Refused MissingWitnessScript ∷ Refused CountsTooLarge ∷ Refused NotAllowed
+    ∷ Refused OutOfRange ∷ Refused UnknownOutputType ∷ Refused Unsupported ∷ Refused MissingOutputScript
+    ∷ Refused InvalidSilentPayment ∷ Refused InvalidOutputScripts ∷ Refused InvalidSighashType ∷ Refused TooLong
+    ∷ Refused PairsFull ∷ Refused MapsFull ∷ Refused BadIndex ∷ Refused NoRoom ∷ []
 
 errorOf : ℕ → Ruled
 errorOf n = getD errors n Passed
@@ -252,7 +259,8 @@ lockRule e (v ∷ vs) =
 
 lockBy : Ruled → List Value → Lock
 lockBy (Refused e) vs = lockRule e vs
-lockBy Passed vs = pick (eqb (natAt vs 0) 0) (D.Fallback (natAt vs 1)) (pick (eqb (natAt vs 0) 1) (D.Height (natAt vs 1) (natAt vs 2)) (D.Time (natAt vs 1) (natAt vs 2)))
+lockBy Passed vs = pick (eqb (natAt vs 0) 0) (D.Fallback (natAt vs 1))
+    (pick (eqb (natAt vs 0) 1) (D.Height (natAt vs 1) (natAt vs 2)) (D.Time (natAt vs 1) (natAt vs 2)))
 
 lockOf : Told → Lock
 lockOf (told n vs) = lockBy (errorOf n) vs
@@ -274,7 +282,13 @@ lock-one = known-by toldLock lockOf lock-of
 parsedBy : Ruled → List Value → Parsed
 parsedBy (Refused e) vs = P.Refused e (natAt vs 0) (natAt vs 1)
 parsedBy Passed vs =
-    P.Accepted (record { «tx_version» = intAt vs 0; «fallback_locktime» = maybeOf (getD vs 1 none); «tx_modifiable» = maybeOf (getD vs 2 none); inputs = natAt vs 3; outputs = natAt vs 4 })
+    P.Accepted (record {
+      «tx_version» = intAt vs 0;
+      «fallback_locktime» = maybeOf (getD vs 1 none);
+      «tx_modifiable» = maybeOf (getD vs 2 none);
+      inputs = natAt vs 3;
+      outputs = natAt vs 4;
+    })
     (natAt vs 5) (natAt vs 6)
 
 parsedOf : Told → Parsed

@@ -26,7 +26,8 @@ parsed-F : parsed fileF (replicate 32 0) (replicate 6 0) ≡ out (R.Accepted psb
 unfolding computes
 parsed-F = refl
 
-tx-F : unsignedTx (view fileF pairsF mapsF psbtF) psbtF fresh [] (replicate 61 0) ≡ txOut (U.Written 61 (record { set = false; written = true })) (txF (0 ∷ 0 ∷ 0 ∷ 0 ∷ []))
+tx-F : unsignedTx (view fileF pairsF mapsF psbtF) psbtF fresh [] (replicate 61 0)
+    ≡ txOut (U.Written 61 (record { set = false; written = true })) (txF (0 ∷ 0 ∷ 0 ∷ 0 ∷ []))
 unfolding computes
 tx-F = refl
 
@@ -50,7 +51,8 @@ pub writes-no-transaction : (r : UnsignedTx) → txOut r (replicate 61 0) ≡ un
 writes-no-transaction r h = let k = h ∙ tx-F in let z : _≡_ {A = ℕ} 0 2 = cc in omega arith
 
 -- one that indexes the global map truly and fakes the others: whatever it leaves there, it is F's own entries
-pub fakes-no-map : (r : Parsed) (P M : List ℕ) → out r (pairsE ++ P) (0 ∷ 4 ∷ M) ≡ parsed fileF (replicate 32 0) (replicate 6 0) → (pairsE ++ P ≡ pairsF) × (M ≡ drop 2 mapsF)
+pub fakes-no-map : (r : Parsed) (P M : List ℕ) → out r (pairsE ++ P) (0 ∷ 4 ∷ M) ≡ parsed fileF (replicate 32 0) (replicate 6 0)
+    → (pairsE ++ P ≡ pairsF) × (M ≡ drop 2 mapsF)
 fakes-no-map r P M h = let k = h ∙ parsed-F in ((cc), (cc))
 
 -- one whose pair and map counts are its own

@@ -9,14 +9,19 @@ use Rattle.format.specs.Numbers.{le, bytesOf, signed, unsigned}
 use Rattle.format.specs.Compact.{long, sizeBy, size, shortest, countBy, count}
 use Rattle.format.specs.Keys.{typeOf, dataOf, keyOf, order, isBelow, isSame, below, same}
 use Rattle.format.specs.Rules.{valueFits, isRow, rowRule, sizesIn, sizes, countRule, bareRule, andThen, rule}
-use Rattle.format.specs.Content.{find, field, present, number, maybe, sizeValue, counted, psbtOf, globalRule, modifiable, outputBy, outputRule, outputsRule}
-use Rattle.format.specs.Reading.{limit, ruled, valued, risen, keyed, itemBy, item, front, turn, items, mapped, pairEvents, mapEvents, mapsEvents, unless, lastly, globalThen, eventsOf, events}
+use Rattle.format.specs.Content.{find, field, present, number, maybe, sizeValue, counted, psbtOf}
+use Rattle.format.specs.Content.{globalRule, modifiable, outputBy, outputRule, outputsRule}
+use Rattle.format.specs.Reading.{limit, ruled, valued, risen, keyed, itemBy, item, front, turn, items, mapped, pairEvents}
+use Rattle.format.specs.Reading.{mapEvents, mapsEvents, unless, lastly, globalThen, eventsOf, events}
 use Rattle.format.specs.Entries.{hasRoom, pairEntryWords, mapEntryWords, putPair, putMap, pairEntries, mapEntries, entryOf, width, keyIn, valueIn, shown}
 use Rattle.format.specs.Parse.{ParseOut, out, cut, parsed}
 use Rattle.format.specs.Tables.{inFile, fit, fitted, heldBy, mapsReported, held, viewOf, view, gatherBy, gather}
-use Rattle.format.specs.Locks.{sizedTo, inOf, askedBy, along, heights, times, isMisfit, misfitBy, misfits, greatest, heightLock, timeLock, orZero, decideBy, wellFormed, decide, lockOf}
+use Rattle.format.specs.Locks.{sizedTo, inOf, askedBy, along, heights, times, isMisfit, misfitBy, misfits, greatest}
+use Rattle.format.specs.Locks.{heightLock, timeLock, orZero, decideBy, wellFormed, decide, lockOf}
 use Rattle.format.specs.Scripts.{outOf, reportedBy, reported, taproot}
-use Rattle.format.specs.Transaction.{entryFits, scriptsFit, tableFits, setSoFar, setScript, scriptOf, ahead, needs, orFinal, inputThen, inputsThen, needsScript, outputThen, outputsThen, txWith, txBy, transaction, txReported, written, unsignedTx}
+use Rattle.format.specs.Transaction.{entryFits, scriptsFit, tableFits, setSoFar, setScript, scriptOf, ahead}
+use Rattle.format.specs.Transaction.{needs, orFinal, inputThen, inputsThen, needsScript, outputThen, outputsThen}
+use Rattle.format.specs.Transaction.{txWith, txBy, transaction, txReported, written, unsignedTx}
 use Rattle.format.specs.Told.{Value, int, nat, maybeValue, Told, told, toldParsed, toldTx, ToldOut, toldTxOut}
 use Rattle.format.specs.ExampleFiles.{fresh}
 use Rattle.format.specs.declared.Parsed.the-variants as R
@@ -37,7 +42,14 @@ answers f = answersTo f (parsed f (replicate 48 0) (replicate 8 0))
 
 -- all that a file's reading and its transaction are made of
 unfoldable pub computes : List ℕ → Answers
-unfolding numberOf only every le bytesOf signed unsigned long sizeBy size shortest countBy count typeOf dataOf keyOf order isBelow isSame below same valueFits isRow rowRule sizesIn sizes countRule bareRule andThen rule find field present number maybe sizeValue counted psbtOf globalRule modifiable outputBy outputRule outputsRule limit ruled valued risen keyed itemBy item front turn items mapped pairEvents mapEvents mapsEvents unless lastly globalThen eventsOf events hasRoom pairEntryWords mapEntryWords putPair putMap pairEntries mapEntries entryOf width keyIn valueIn shown cut parsed inFile fit fitted heldBy mapsReported held viewOf view gatherBy gather sizedTo inOf askedBy along heights times isMisfit misfitBy misfits greatest heightLock timeLock orZero decideBy wellFormed decide lockOf outOf reportedBy reported taproot entryFits scriptsFit tableFits setSoFar setScript scriptOf ahead needs orFinal inputThen inputsThen needsScript outputThen outputsThen txWith txBy transaction txReported written unsignedTx maybeValue toldParsed toldTx toldTxOut answersTo answers
+unfolding numberOf only every le bytesOf signed unsigned long sizeBy size shortest countBy count typeOf dataOf keyOf order
+    isBelow isSame below same valueFits isRow rowRule sizesIn sizes countRule bareRule andThen rule find field present number maybe sizeValue
+    counted psbtOf globalRule modifiable outputBy outputRule outputsRule limit ruled valued risen keyed itemBy item front turn items mapped
+    pairEvents mapEvents mapsEvents unless lastly globalThen eventsOf events hasRoom pairEntryWords mapEntryWords putPair putMap pairEntries
+    mapEntries entryOf width keyIn valueIn shown cut parsed inFile fit fitted heldBy mapsReported held viewOf view gatherBy gather sizedTo
+    inOf askedBy along heights times isMisfit misfitBy misfits greatest heightLock timeLock orZero decideBy wellFormed decide lockOf outOf
+    reportedBy reported taproot entryFits scriptsFit tableFits setSoFar setScript scriptOf ahead needs orFinal inputThen inputsThen needsScript
+    outputThen outputsThen txWith txBy transaction txReported written unsignedTx maybeValue toldParsed toldTx toldTxOut answersTo answers
 computes = answers
 
 -- a refused parse: its number, and the pairs and maps used

@@ -6,7 +6,8 @@ use mathlib.Core.List.{List, [], _∷_}
 use lib.IntN.{negsuc}
 use Rattle.format.specs.Rows.{Row, is, Hold}
 use Rattle.format.specs.Unfolds.{lookups}
-use Rattle.format.specs.Content.{Pair, Map, Content, mapsOf, bytes, Found, absent, found, find, field, psbtOf, globalRule, modifiable, outputBy, outputRule, outputsRule}
+use Rattle.format.specs.Content.{Pair, Map, Content, mapsOf, bytes, Found, absent, found, find, field}
+use Rattle.format.specs.Content.{psbtOf, globalRule, modifiable, outputBy, outputRule, outputsRule}
 use Rattle.format.specs.Told.{Value, none, int, Told, told, nat, toldParsed}
 use Rattle.format.specs.declared.PsbtError.the-variants.{MissingCounts, NotAllowed, MissingOutputScript, InvalidSilentPayment}
 use Rattle.format.specs.declared.Ruled.{Ruled}
@@ -20,6 +21,10 @@ bare t v = record { klen = 1 ∷ []; key = t ∷ []; vlen = []; value = v }
 -- a pair of a type with a byte of key data
 abbrev keyed : ℕ → List ℕ → Pair
 keyed t v = record { klen = 2 ∷ []; key = t ∷ 0 ∷ []; vlen = []; value = v }
+
+-- version 2
+abbrev two : List ℕ
+two = 0x02 ∷ 0x00 ∷ 0x00 ∷ 0x00 ∷ []
 
 -- a key in a map: the value of the pair that has it, be it empty
 unfoldable pub finds : List (Row Found)
@@ -41,32 +46,32 @@ keys-found = refl
 unfoldable pub globals : List (Row Ruled)
 globals =
     -- all four, version 2
-    is (globalRule (bare 0x02 (0x02 ∷ 0x00 ∷ 0x00 ∷ 0x00 ∷ []) ∷ bare 0x04 (0x00 ∷ []) ∷ bare 0x05 (0x00 ∷ []) ∷ bare 0xfb (0x02 ∷ 0x00 ∷ 0x00 ∷ 0x00 ∷ []) ∷ [])) Passed
+    is (globalRule (bare 0x02 two ∷ bare 0x04 (0x00 ∷ []) ∷ bare 0x05 (0x00 ∷ []) ∷ bare 0xfb two ∷ [])) Passed
     -- one of them missing
-    ∷ is (globalRule (bare 0x04 (0x00 ∷ []) ∷ bare 0x05 (0x00 ∷ []) ∷ bare 0xfb (0x02 ∷ 0x00 ∷ 0x00 ∷ 0x00 ∷ []) ∷ [])) (Refused MissingCounts)
-    ∷ is (globalRule (bare 0x02 (0x02 ∷ 0x00 ∷ 0x00 ∷ 0x00 ∷ []) ∷ bare 0x05 (0x00 ∷ []) ∷ bare 0xfb (0x02 ∷ 0x00 ∷ 0x00 ∷ 0x00 ∷ []) ∷ [])) (Refused MissingCounts)
-    ∷ is (globalRule (bare 0x02 (0x02 ∷ 0x00 ∷ 0x00 ∷ 0x00 ∷ []) ∷ bare 0x04 (0x00 ∷ []) ∷ bare 0xfb (0x02 ∷ 0x00 ∷ 0x00 ∷ 0x00 ∷ []) ∷ [])) (Refused MissingCounts)
-    ∷ is (globalRule (bare 0x02 (0x02 ∷ 0x00 ∷ 0x00 ∷ 0x00 ∷ []) ∷ bare 0x04 (0x00 ∷ []) ∷ bare 0x05 (0x00 ∷ []) ∷ [])) (Refused MissingCounts)
+    ∷ is (globalRule (bare 0x04 (0x00 ∷ []) ∷ bare 0x05 (0x00 ∷ []) ∷ bare 0xfb two ∷ [])) (Refused MissingCounts)
+    ∷ is (globalRule (bare 0x02 two ∷ bare 0x05 (0x00 ∷ []) ∷ bare 0xfb two ∷ [])) (Refused MissingCounts)
+    ∷ is (globalRule (bare 0x02 two ∷ bare 0x04 (0x00 ∷ []) ∷ bare 0xfb two ∷ [])) (Refused MissingCounts)
+    ∷ is (globalRule (bare 0x02 two ∷ bare 0x04 (0x00 ∷ []) ∷ bare 0x05 (0x00 ∷ []) ∷ [])) (Refused MissingCounts)
     -- one of them with key data only
-    ∷ is (globalRule (keyed 0x02 (0x02 ∷ 0x00 ∷ 0x00 ∷ 0x00 ∷ []) ∷ bare 0x04 (0x00 ∷ []) ∷ bare 0x05 (0x00 ∷ []) ∷ bare 0xfb (0x02 ∷ 0x00 ∷ 0x00 ∷ 0x00 ∷ []) ∷ [])) (Refused MissingCounts)
-    ∷ is (globalRule (bare 0x02 (0x02 ∷ 0x00 ∷ 0x00 ∷ 0x00 ∷ []) ∷ keyed 0x04 (0x00 ∷ []) ∷ bare 0x05 (0x00 ∷ []) ∷ bare 0xfb (0x02 ∷ 0x00 ∷ 0x00 ∷ 0x00 ∷ []) ∷ [])) (Refused MissingCounts)
-    ∷ is (globalRule (bare 0x02 (0x02 ∷ 0x00 ∷ 0x00 ∷ 0x00 ∷ []) ∷ bare 0x04 (0x00 ∷ []) ∷ keyed 0x05 (0x00 ∷ []) ∷ bare 0xfb (0x02 ∷ 0x00 ∷ 0x00 ∷ 0x00 ∷ []) ∷ [])) (Refused MissingCounts)
-    ∷ is (globalRule (bare 0x02 (0x02 ∷ 0x00 ∷ 0x00 ∷ 0x00 ∷ []) ∷ bare 0x04 (0x00 ∷ []) ∷ bare 0x05 (0x00 ∷ []) ∷ keyed 0xfb (0x02 ∷ 0x00 ∷ 0x00 ∷ 0x00 ∷ []) ∷ [])) (Refused MissingCounts)
+    ∷ is (globalRule (keyed 0x02 two ∷ bare 0x04 (0x00 ∷ []) ∷ bare 0x05 (0x00 ∷ []) ∷ bare 0xfb two ∷ [])) (Refused MissingCounts)
+    ∷ is (globalRule (bare 0x02 two ∷ keyed 0x04 (0x00 ∷ []) ∷ bare 0x05 (0x00 ∷ []) ∷ bare 0xfb two ∷ [])) (Refused MissingCounts)
+    ∷ is (globalRule (bare 0x02 two ∷ bare 0x04 (0x00 ∷ []) ∷ keyed 0x05 (0x00 ∷ []) ∷ bare 0xfb two ∷ [])) (Refused MissingCounts)
+    ∷ is (globalRule (bare 0x02 two ∷ bare 0x04 (0x00 ∷ []) ∷ bare 0x05 (0x00 ∷ []) ∷ keyed 0xfb two ∷ [])) (Refused MissingCounts)
     -- none, and another type alone
     ∷ is (globalRule []) (Refused MissingCounts)
     ∷ is (globalRule (bare 0x03 (0x00 ∷ []) ∷ [])) (Refused MissingCounts)
     -- another version
-    ∷ is (globalRule (bare 0x02 (0x02 ∷ 0x00 ∷ 0x00 ∷ 0x00 ∷ []) ∷ bare 0x04 (0x00 ∷ []) ∷ bare 0x05 (0x00 ∷ []) ∷ bare 0xfb (0x00 ∷ 0x00 ∷ 0x00 ∷ 0x00 ∷ []) ∷ [])) (Refused NotAllowed)
-    ∷ is (globalRule (bare 0x02 (0x02 ∷ 0x00 ∷ 0x00 ∷ 0x00 ∷ []) ∷ bare 0x04 (0x00 ∷ []) ∷ bare 0x05 (0x00 ∷ []) ∷ bare 0xfb (0x01 ∷ 0x00 ∷ 0x00 ∷ 0x00 ∷ []) ∷ [])) (Refused NotAllowed)
-    ∷ is (globalRule (bare 0x02 (0x02 ∷ 0x00 ∷ 0x00 ∷ 0x00 ∷ []) ∷ bare 0x04 (0x00 ∷ []) ∷ bare 0x05 (0x00 ∷ []) ∷ bare 0xfb (0x03 ∷ 0x00 ∷ 0x00 ∷ 0x00 ∷ []) ∷ [])) (Refused NotAllowed)
-    ∷ is (globalRule (bare 0x02 (0x02 ∷ 0x00 ∷ 0x00 ∷ 0x00 ∷ []) ∷ bare 0x04 (0x00 ∷ []) ∷ bare 0x05 (0x00 ∷ []) ∷ bare 0xfb (0x02 ∷ 0x01 ∷ 0x00 ∷ 0x00 ∷ []) ∷ [])) (Refused NotAllowed)
-    ∷ is (globalRule (bare 0x02 (0x02 ∷ 0x00 ∷ 0x00 ∷ 0x00 ∷ []) ∷ bare 0x04 (0x00 ∷ []) ∷ bare 0x05 (0x00 ∷ []) ∷ bare 0xfb (0x00 ∷ 0x00 ∷ 0x00 ∷ 0x02 ∷ []) ∷ [])) (Refused NotAllowed)
-    ∷ is (globalRule (bare 0x02 (0x02 ∷ 0x00 ∷ 0x00 ∷ 0x00 ∷ []) ∷ bare 0x04 (0x00 ∷ []) ∷ bare 0x05 (0x00 ∷ []) ∷ bare 0xfb (0x02 ∷ 0x00 ∷ 0x00 ∷ 0x80 ∷ []) ∷ [])) (Refused NotAllowed)
-    ∷ is (globalRule (bare 0x02 (0x02 ∷ 0x00 ∷ 0x00 ∷ 0x00 ∷ []) ∷ bare 0x04 (0x00 ∷ []) ∷ bare 0x05 (0x00 ∷ []) ∷ bare 0xfb (0xff ∷ 0xff ∷ 0xff ∷ 0xff ∷ []) ∷ [])) (Refused NotAllowed)
+    ∷ is (globalRule (bare 0x02 two ∷ bare 0x04 (0x00 ∷ []) ∷ bare 0x05 (0x00 ∷ []) ∷ bare 0xfb (0x00 ∷ 0x00 ∷ 0x00 ∷ 0x00 ∷ []) ∷ [])) (Refused NotAllowed)
+    ∷ is (globalRule (bare 0x02 two ∷ bare 0x04 (0x00 ∷ []) ∷ bare 0x05 (0x00 ∷ []) ∷ bare 0xfb (0x01 ∷ 0x00 ∷ 0x00 ∷ 0x00 ∷ []) ∷ [])) (Refused NotAllowed)
+    ∷ is (globalRule (bare 0x02 two ∷ bare 0x04 (0x00 ∷ []) ∷ bare 0x05 (0x00 ∷ []) ∷ bare 0xfb (0x03 ∷ 0x00 ∷ 0x00 ∷ 0x00 ∷ []) ∷ [])) (Refused NotAllowed)
+    ∷ is (globalRule (bare 0x02 two ∷ bare 0x04 (0x00 ∷ []) ∷ bare 0x05 (0x00 ∷ []) ∷ bare 0xfb (0x02 ∷ 0x01 ∷ 0x00 ∷ 0x00 ∷ []) ∷ [])) (Refused NotAllowed)
+    ∷ is (globalRule (bare 0x02 two ∷ bare 0x04 (0x00 ∷ []) ∷ bare 0x05 (0x00 ∷ []) ∷ bare 0xfb (0x00 ∷ 0x00 ∷ 0x00 ∷ 0x02 ∷ []) ∷ [])) (Refused NotAllowed)
+    ∷ is (globalRule (bare 0x02 two ∷ bare 0x04 (0x00 ∷ []) ∷ bare 0x05 (0x00 ∷ []) ∷ bare 0xfb (0x02 ∷ 0x00 ∷ 0x00 ∷ 0x80 ∷ []) ∷ [])) (Refused NotAllowed)
+    ∷ is (globalRule (bare 0x02 two ∷ bare 0x04 (0x00 ∷ []) ∷ bare 0x05 (0x00 ∷ []) ∷ bare 0xfb (0xff ∷ 0xff ∷ 0xff ∷ 0xff ∷ []) ∷ [])) (Refused NotAllowed)
     -- missing ones before the version
     ∷ is (globalRule (bare 0x04 (0x00 ∷ []) ∷ bare 0x05 (0x00 ∷ []) ∷ bare 0xfb (0x03 ∷ 0x00 ∷ 0x00 ∷ 0x00 ∷ []) ∷ [])) (Refused MissingCounts)
-    ∷ is (globalRule (bare 0x02 (0x02 ∷ 0x00 ∷ 0x00 ∷ 0x00 ∷ []) ∷ bare 0x05 (0x00 ∷ []) ∷ bare 0xfb (0x03 ∷ 0x00 ∷ 0x00 ∷ 0x00 ∷ []) ∷ [])) (Refused MissingCounts)
-    ∷ is (globalRule (bare 0x02 (0x02 ∷ 0x00 ∷ 0x00 ∷ 0x00 ∷ []) ∷ bare 0x04 (0x00 ∷ []) ∷ bare 0xfb (0x03 ∷ 0x00 ∷ 0x00 ∷ 0x00 ∷ []) ∷ [])) (Refused MissingCounts)
+    ∷ is (globalRule (bare 0x02 two ∷ bare 0x05 (0x00 ∷ []) ∷ bare 0xfb (0x03 ∷ 0x00 ∷ 0x00 ∷ 0x00 ∷ []) ∷ [])) (Refused MissingCounts)
+    ∷ is (globalRule (bare 0x02 two ∷ bare 0x04 (0x00 ∷ []) ∷ bare 0xfb (0x03 ∷ 0x00 ∷ 0x00 ∷ 0x00 ∷ []) ∷ [])) (Refused MissingCounts)
     ∷ []
 
 -- so it is ruled
@@ -86,10 +91,13 @@ reports v f m i o = told 0 (v ∷ f ∷ m ∷ nat i ∷ nat o ∷ nat 0 ∷ nat 
 unfoldable pub reported : List (Row Told)
 reported =
     is (report (bare 0x02 (2 ∷ 0 ∷ 0 ∷ 0 ∷ []) ∷ bare 0x04 (0 ∷ []) ∷ bare 0x05 (0 ∷ []) ∷ bare 0xfb (2 ∷ 0 ∷ 0 ∷ 0 ∷ []) ∷ [])) (reports (nat 2) none none 0 0)
-    ∷ is (report (bare 0x02 (1 ∷ 0 ∷ 0 ∷ 0 ∷ []) ∷ bare 0x03 (0 ∷ 0 ∷ 0 ∷ 0 ∷ []) ∷ bare 0x04 (3 ∷ []) ∷ bare 0x05 (5 ∷ []) ∷ bare 0x06 (0 ∷ []) ∷ [])) (reports (nat 1) (nat 0) (nat 0) 3 5)
-    ∷ is (report (bare 0x02 (0xff ∷ 0xff ∷ 0xff ∷ 0xff ∷ []) ∷ bare 0x03 (0x00 ∷ 0x65 ∷ 0xcd ∷ 0x1d ∷ []) ∷ bare 0x04 (0xfd ∷ 1 ∷ 0 ∷ []) ∷ bare 0x05 (0xfd ∷ 0 ∷ 1 ∷ []) ∷ bare 0x06 (7 ∷ []) ∷ []))
+    ∷ is (report (bare 0x02 (1 ∷ 0 ∷ 0 ∷ 0 ∷ []) ∷ bare 0x03 (0 ∷ 0 ∷ 0 ∷ 0 ∷ []) ∷ bare 0x04 (3 ∷ []) ∷ bare 0x05 (5 ∷ []) ∷ bare 0x06 (0 ∷ []) ∷ []))
+    (reports (nat 1) (nat 0) (nat 0) 3 5)
+    ∷ is (report (bare 0x02 (0xff ∷ 0xff ∷ 0xff ∷ 0xff ∷ [])
+    ∷ bare 0x03 (0x00 ∷ 0x65 ∷ 0xcd ∷ 0x1d ∷ []) ∷ bare 0x04 (0xfd ∷ 1 ∷ 0 ∷ []) ∷ bare 0x05 (0xfd ∷ 0 ∷ 1 ∷ []) ∷ bare 0x06 (7 ∷ []) ∷ []))
     (reports (int (negsuc 0)) (nat 500_000_000) (nat 7) 1 256)
-    ∷ is (report (bare 0x02 (0 ∷ 0 ∷ 0 ∷ 0x80 ∷ []) ∷ keyed 0x03 (1 ∷ []) ∷ keyed 0x04 (1 ∷ []) ∷ keyed 0x05 (1 ∷ []) ∷ keyed 0x06 (1 ∷ []) ∷ [])) (reports (int (negsuc 0x7fff_ffff)) none none 0 0)
+    ∷ is (report (bare 0x02 (0 ∷ 0 ∷ 0 ∷ 0x80 ∷ []) ∷ keyed 0x03 (1 ∷ []) ∷ keyed 0x04 (1 ∷ []) ∷ keyed 0x05 (1 ∷ []) ∷ keyed 0x06 (1 ∷ []) ∷ []))
+    (reports (int (negsuc 0x7fff_ffff)) none none 0 0)
     ∷ is (report (bare 0x03 (9 ∷ 0 ∷ 0 ∷ 0 ∷ []) ∷ [])) (reports (nat 0) (nat 9) none 0 0)
     ∷ is (report (bare 0x06 (3 ∷ []) ∷ [])) (reports (nat 0) none (nat 3) 0 0)
     -- a count that can't be read, which no accepted map has, is 0

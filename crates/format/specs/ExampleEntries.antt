@@ -8,7 +8,8 @@ use Rattle.format.specs.Rows.{Row, is, Hold}
 use Rattle.format.specs.Unfolds.{lookups}
 use Rattle.format.specs.Counting.{counting, entry, mapEntry}
 use Rattle.format.specs.Content.{Pair}
-use Rattle.format.specs.Entries.{pairWords, mapWords, hasRoom, pairEntryWords, mapEntryWords, putPair, putMap, pairEntries, mapEntries, entryOf, width, keyIn, valueIn, shown}
+use Rattle.format.specs.Entries.{pairWords, mapWords, hasRoom, pairEntryWords, mapEntryWords, putPair, putMap}
+use Rattle.format.specs.Entries.{pairEntries, mapEntries, entryOf, width, keyIn, valueIn, shown}
 use Rattle.format.specs.declared.PairEntry.{PairEntry}
 use Rattle.format.specs.declared.MapEntry.{MapEntry}
 

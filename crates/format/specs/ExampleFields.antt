@@ -8,7 +8,9 @@ use Rattle.format.specs.Counting.{counting, inputPair, outputPair, at, n
 use Rattle.format.specs.ExampleFiles.{fileF, pairsF, mapsF, psbtF}
 use Rattle.format.specs.Tables.{Held, heldInput, heldOutput}
 use Rattle.format.specs.Lookups.{list}
-use Rattle.format.specs.Fields.{nonWitnessUtxo, witnessUtxo, sighashType, redeemScript, witnessScript, finalScriptsig, finalScriptwitness, previousTxid, outputIndex, sequence, requiredTimeLocktime, requiredHeightLocktime, spTweak, outRedeemScript, outWitnessScript, amount, script, spV0Info, spV0Label}
+use Rattle.format.specs.Fields.{nonWitnessUtxo, witnessUtxo, sighashType, redeemScript, witnessScript, finalScriptsig, finalScriptwitness}
+use Rattle.format.specs.Fields.{previousTxid, outputIndex, sequence, requiredTimeLocktime, requiredHeightLocktime, spTweak}
+use Rattle.format.specs.Fields.{outRedeemScript, outWitnessScript, amount, script, spV0Info, spV0Label}
 use Rattle.format.specs.Told.{Told, toldLooked, toldNumbered, toldListing}
 use Rattle.format.specs.declared.Looked.{Looked}
 use Rattle.format.specs.declared.Numbered.{Numbered}

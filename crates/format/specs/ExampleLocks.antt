@@ -9,7 +9,9 @@ use Rattle.format.specs.Numbers.{le, bytesOf}
 use Rattle.format.specs.Keys.{order, same, isSame, keyOf}
 use Rattle.format.specs.Content.{Pair, absent, found, find, field}
 use Rattle.format.specs.Tables.{View, hides, shows, gatherBy, gather, mapsReported}
-use Rattle.format.specs.Locks.{Sized, missing, misfit, is as bytes, sizedTo, In, inOf, askedBy, along, heights, times, isMisfit, misfitBy, misfits, greatest, heightLock, timeLock, orZero, decideBy, wellFormed, decide, Locked, locked, unlocked, lockOf}
+use Rattle.format.specs.Locks.{Sized, missing, misfit, is as bytes, sizedTo, In, inOf, askedBy, along, heights}
+use Rattle.format.specs.Locks.{times, isMisfit, misfitBy, misfits, greatest, heightLock, timeLock, orZero}
+use Rattle.format.specs.Locks.{decideBy, wellFormed, decide, Locked, locked, unlocked, lockOf}
 use Rattle.format.specs.Scripts.{outOf, reportedBy, reported}
 use Rattle.format.specs.Transaction.{lockBy, lockDecided}
 use Rattle.format.specs.Told.{Told, told, nat, toldLock}
@@ -36,7 +38,8 @@ fields-of-a-width = refl
 
 -- an input of five fields, of values with so many bytes
 abbrev inputPairs : ℕ → ℕ → ℕ → ℕ → ℕ → List Pair
-inputPairs a b c d e = pairOf 0x0e (replicate a 1) ∷ pairOf 0x0f (replicate b 2) ∷ pairOf 0x10 (replicate c 3) ∷ pairOf 0x11 (replicate d 4) ∷ pairOf 0x12 (replicate e 5) ∷ []
+inputPairs a b c d e = pairOf 0x0e (replicate a 1) ∷ pairOf 0x0f (replicate b 2)
+    ∷ pairOf 0x10 (replicate c 3) ∷ pairOf 0x11 (replicate d 4) ∷ pairOf 0x12 (replicate e 5) ∷ []
 
 -- an input's fields: txid 0e of 32 bytes, index 0f, sequence 10, time 11, height 12 of 4; others and those with key data count for nothing
 unfoldable pub inputs : List (Row In)
@@ -51,8 +54,10 @@ inputs =
     })
     ∷ is (inOf (inputPairs 31 3 3 3 3)) (record { txid = misfit; index = misfit; sequence = misfit; time = misfit; height = misfit })
     ∷ is (inOf (inputPairs 33 5 5 5 5)) (record { txid = misfit; index = misfit; sequence = misfit; time = misfit; height = misfit })
-    ∷ is (inOf (pairOf 0x0d (replicate 32 1) ∷ pairOf 0x13 (1 ∷ 2 ∷ 3 ∷ 4 ∷ []) ∷ [])) (record { txid = missing; index = missing; sequence = missing; time = missing; height = missing })
-    ∷ is (inOf (record { klen = 2 ∷ []; key = 0x12 ∷ 0 ∷ []; vlen = 4 ∷ []; value = 1 ∷ 2 ∷ 3 ∷ 4 ∷ [] } ∷ [])) (record { txid = missing; index = missing; sequence = missing; time = missing; height = missing })
+    ∷ is (inOf (pairOf 0x0d (replicate 32 1) ∷ pairOf 0x13 (1 ∷ 2 ∷ 3 ∷ 4 ∷ []) ∷ []))
+    (record { txid = missing; index = missing; sequence = missing; time = missing; height = missing })
+    ∷ is (inOf (record { klen = 2 ∷ []; key = 0x12 ∷ 0 ∷ []; vlen = 4 ∷ []; value = 1 ∷ 2 ∷ 3 ∷ 4 ∷ [] } ∷ []))
+    (record { txid = missing; index = missing; sequence = missing; time = missing; height = missing })
     ∷ []
 
 -- so an input's pairs are taken

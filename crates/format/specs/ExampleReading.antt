@@ -113,7 +113,8 @@ contents =
       outs = ends (pairOf 0x03 (0xe8 ∷ 3 ∷ 0 ∷ 0 ∷ 0 ∷ 0 ∷ 0 ∷ 0 ∷ []) ∷ pairOf 0x04 (0x51 ∷ []) ∷ []) ∷ [];
     }))
     -- two inputs, the first ended by fd0000; two outputs; lengths spelled by three and by five bytes
-    ∷ is (reading (globals 2 2 [] [] ++ (0xfd ∷ 1 ∷ 0 ∷ 0x7f ∷ 1 ∷ 5 ∷ 0xfd ∷ 0 ∷ 0 ∷ 2 ∷ 0x19 ∷ 7 ∷ 0xfe ∷ 2 ∷ 0 ∷ 0 ∷ 0 ∷ 8 ∷ 9 ∷ 0 ∷ 1 ∷ 0x04 ∷ 0 ∷ 0 ∷ (script ++ (0 ∷ [])))))
+    ∷ is (reading (globals 2 2 [] []
+    ++ (0xfd ∷ 1 ∷ 0 ∷ 0x7f ∷ 1 ∷ 5 ∷ 0xfd ∷ 0 ∷ 0 ∷ 2 ∷ 0x19 ∷ 7 ∷ 0xfe ∷ 2 ∷ 0 ∷ 0 ∷ 0 ∷ 8 ∷ 9 ∷ 0 ∷ 1 ∷ 0x04 ∷ 0 ∷ 0 ∷ (script ++ (0 ∷ [])))))
     (accepted (record {
       global = globalMap 2 2;
       ins =

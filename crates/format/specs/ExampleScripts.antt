@@ -11,7 +11,8 @@ use Rattle.format.specs.Keys.{order, same, isSame, keyOf}
 use Rattle.format.specs.Content.{absent, found, present, find, field}
 use Rattle.format.specs.Tables.{View, hides, shows, gatherBy, gather, mapsReported}
 use Rattle.format.specs.Locks.{missing, misfit, is as bytes, sizedTo, inOf}
-use Rattle.format.specs.Scripts.{Out, outOf, reportedBy, reported, scriptIn, taproot, allowed, named, served, Given, whole, cutShort, andMore, flat, entryFor, entriesFor, rightFor, settable, afterSet, setTable, setGiven, setBy, setScripts}
+use Rattle.format.specs.Scripts.{Out, outOf, reportedBy, reported, scriptIn, taproot, allowed, named, served, Given, whole, cutShort}
+use Rattle.format.specs.Scripts.{andMore, flat, entryFor, entriesFor, rightFor, settable, afterSet, setTable, setGiven, setBy, setScripts}
 use Rattle.format.specs.Told.{told, flag, toldSet, ToldOut, toldLeft, toldSetOut}
 use Rattle.format.specs.ExampleFiles.{fresh}
 use Rattle.format.specs.ExampleMaps.{pairOf, views, reporting, taprootScript, plainOut, silentOut}
@@ -78,7 +79,8 @@ taproot-shapes = refl
 
 -- the setter on outputs behind a global map and an input, with numbers given by threes
 unfoldable pub sets : List View → List ℕ → List ℕ → State → List ℕ → ToldOut
-unfolding numberOf only every order same isSame keyOf present find field gatherBy gather mapsReported sizedTo inOf outOf reportedBy reported scriptIn taproot allowed named served andMore flat entryFor entriesFor rightFor settable afterSet setTable setGiven setBy setScripts toldSet toldSetOut views
+unfolding numberOf only every order same isSame keyOf present find field gatherBy gather mapsReported sizedTo inOf outOf reportedBy reported scriptIn
+    taproot allowed named served andMore flat entryFor entriesFor rightFor settable afterSet setTable setGiven setBy setScripts toldSet toldSetOut views
 sets outs xs buffer t T = toldSetOut (setScripts (views (shows [] ∷ shows [] ∷ outs)) (reporting Absent 1 (length outs)) (flat xs) buffer t T)
 
 -- set, and the table
@@ -163,8 +165,10 @@ each-cause-of-19 = refl
 unfoldable pub order-of-refusals : List (Row ToldOut)
 order-of-refusals =
     -- an unfit map, whichever it is: before a state that forbids, a cut list, a table without room
-    is (toldSetOut (setScripts (views (hides BadIndex ∷ silentOut ∷ [])) (reporting Absent 0 1) (flat (0 ∷ 1 ∷ 34 ∷ [])) scripts fresh (replicate 70 9))) (refuses 24)
-    ∷ is (toldSetOut (setScripts (views (shows [] ∷ hides BadIndex ∷ silentOut ∷ [])) (reporting Absent 1 1) (flat (0 ∷ 1 ∷ 34 ∷ [])) scripts fresh (replicate 70 9))) (refuses 24)
+    is (toldSetOut (setScripts (views (hides BadIndex ∷ silentOut ∷ [])) (reporting Absent 0 1) (flat (0 ∷ 1 ∷ 34 ∷ [])) scripts fresh (replicate 70 9)))
+    (refuses 24)
+    ∷ is (toldSetOut (setScripts (views (shows [] ∷ hides BadIndex ∷ silentOut ∷ [])) (reporting Absent 1 1)
+    (flat (0 ∷ 1 ∷ 34 ∷ [])) scripts fresh (replicate 70 9))) (refuses 24)
     ∷ is (sets (silentOut ∷ hides BadIndex ∷ []) (0 ∷ 1 ∷ 34 ∷ []) scripts fresh (replicate 70 9)) (refuses 24)
     ∷ is (sets (hides BadIndex ∷ []) [] [] (record { set = true; written = true }) (replicate 70 9)) (refuses 24)
     ∷ is (sets (hides BadIndex ∷ []) (0 ∷ []) [] fresh (replicate 70 9)) (refuses 24)

@@ -15,7 +15,8 @@ abbrev by : (List ℕ → List ℕ → Held → Looked) → ℕ → ℕ → Held
 by field t n h = toldLooked (field counting (bytesAt (t + 1) n) h)
 
 -- the pair's key is the type and 33 bytes, its value w bytes, one less, one more; another type, another scan key; its key is the type and the
--- very scan key asked, of 32, 34 and no bytes; a scan key of 32 bytes that is not there; the map's number too great, and its key empty, also for a scan key of 32 bytes
+-- every scan key asked, of 32, 34 and no bytes; a scan key of 32 bytes that is not there; the map's
+-- number too great, and its key empty, also for a scan key of 32 bytes
 abbrev tries : (ℕ → ℕ → ℕ → ℕ → ℕ → Held) → (List ℕ → List ℕ → Held → Looked) → ℕ → ℕ → List Told
 tries pair field t w =
     by field t 33 (pair 0 t 34 t w) ∷ by field t 33 (pair 0 t 34 t (w - 1)) ∷ by field t 33 (pair 0 t 34 t (w + 1))

@@ -7,7 +7,8 @@ use Rattle.format.specs.Rows.{Row, is, Hold}
 use Rattle.format.specs.Unfolds.{lookups}
 use Rattle.format.specs.Counting.{counts, entry, bytesAt}
 use Rattle.format.specs.Content.{Pair}
-use Rattle.format.specs.Tables.{inFile, Held, no, holds, fitted, held, heldInput, heldOutput, View, hides, shows, viewOf, view, Gathered, unfit, gathered, gather}
+use Rattle.format.specs.Tables.{inFile, Held, no, holds, fitted, held, heldInput, heldOutput, View}
+use Rattle.format.specs.Tables.{hides, shows, viewOf, view, Gathered, unfit, gathered, gather}
 use Rattle.format.specs.declared.PsbtError.the-variants.{OutOfRange, BadIndex}
 
 -- a file of ten bytes, byte number i is i
@@ -26,8 +27,8 @@ places =
     ∷ is (inFile ten (entry 0 11 0 0)) false
     ∷ is (inFile ten (entry 3 0 0 0)) false
     ∷ is (inFile ten (entry 10 0 0 0)) false
-    ∷ is (inFile ten (entry 4294967295 1 0 0)) false
-    ∷ is (inFile ten (entry 1 4294967295 0 0)) false
+    ∷ is (inFile ten (entry 0xffff_ffff 1 0 0)) false
+    ∷ is (inFile ten (entry 1 0xffff_ffff 0 0)) false
     -- the value: up to the last byte, past it; empty it may be, up to the end of the file
     ∷ is (inFile ten (entry 3 1 9 1)) true
     ∷ is (inFile ten (entry 3 1 9 2)) false
@@ -36,8 +37,8 @@ places =
     ∷ is (inFile ten (entry 3 1 11 0)) false
     ∷ is (inFile ten (entry 3 1 0 10)) true
     ∷ is (inFile ten (entry 3 1 0 11)) false
-    ∷ is (inFile ten (entry 3 1 4294967295 0)) false
-    ∷ is (inFile ten (entry 3 1 1 4294967295)) false
+    ∷ is (inFile ten (entry 3 1 0xffff_ffff 0)) false
+    ∷ is (inFile ten (entry 3 1 1 0xffff_ffff)) false
     ∷ []
 
 -- so they lie in the file or leave it
@@ -198,7 +199,8 @@ maps-show = refl
 unfoldable pub gathers : List (Row Gathered)
 gathers =
     is (gather (view ten three (0 ∷ 1 ∷ 1 ∷ 2 ∷ []) (counts 1 0)) 0 0) (gathered [])
-    ∷ is (gather (view ten three (0 ∷ 1 ∷ 1 ∷ 2 ∷ []) (counts 1 0)) 0 2) (gathered ((pair (3 ∷ []) [] ∷ []) ∷ (pair (5 ∷ []) (0 ∷ 1 ∷ []) ∷ pair (7 ∷ 8 ∷ []) (4 ∷ []) ∷ []) ∷ []))
+    ∷ is (gather (view ten three (0 ∷ 1 ∷ 1 ∷ 2 ∷ []) (counts 1 0)) 0 2)
+    (gathered ((pair (3 ∷ []) [] ∷ []) ∷ (pair (5 ∷ []) (0 ∷ 1 ∷ []) ∷ pair (7 ∷ 8 ∷ []) (4 ∷ []) ∷ []) ∷ []))
     ∷ is (gather (view ten three (0 ∷ 1 ∷ 1 ∷ 2 ∷ []) (counts 1 0)) 1 1) (gathered ((pair (5 ∷ []) (0 ∷ 1 ∷ []) ∷ pair (7 ∷ 8 ∷ []) (4 ∷ []) ∷ []) ∷ []))
     ∷ is (gather (view ten three (0 ∷ 1 ∷ 3 ∷ 0 ∷ []) (counts 1 0)) 0 2) (gathered ((pair (3 ∷ []) [] ∷ []) ∷ [] ∷ []))
     ∷ is (gather (view ten three (0 ∷ 1 ∷ 1 ∷ 2 ∷ []) (counts 1 0)) 0 3) (unfit OutOfRange)

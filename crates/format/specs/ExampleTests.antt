@@ -7,7 +7,11 @@ use lib.Dec.{ltb}
 use Rattle.format.specs.Rows.{Row, is, Hold}
 use Rattle.format.specs.Refusals.{numberOf}
 use Rattle.format.specs.Tests.{pick, keepIf, only, every}
-use Rattle.format.specs.declared.PsbtError.the-variants.{InvalidMagic, UnexpectedEof, InvalidCompactSize, MapTerminatorMissing, DuplicateKey, UnsortedKeys, BadValue, MissingCounts, MissingOutputIndex, MissingRedeemScript, MissingWitnessScript, CountsTooLarge, NotAllowed, OutOfRange, UnknownOutputType, Unsupported, MissingOutputScript, InvalidSilentPayment, InvalidOutputScripts, InvalidSighashType, TooLong, PairsFull, MapsFull, BadIndex, NoRoom}
+use Rattle.format.specs.declared.PsbtError.the-variants.{InvalidMagic, UnexpectedEof, InvalidCompactSize, MapTerminatorMissing, DuplicateKey}
+use Rattle.format.specs.declared.PsbtError.the-variants.{UnsortedKeys, BadValue, MissingCounts, MissingOutputIndex, MissingRedeemScript}
+use Rattle.format.specs.declared.PsbtError.the-variants.{MissingWitnessScript, CountsTooLarge, NotAllowed, OutOfRange, UnknownOutputType}
+use Rattle.format.specs.declared.PsbtError.the-variants.{Unsupported, MissingOutputScript, InvalidSilentPayment, InvalidOutputScripts}
+use Rattle.format.specs.declared.PsbtError.the-variants.{InvalidSighashType, TooLong, PairsFull, MapsFull, BadIndex, NoRoom}
 
 -- a number below 5
 abbrev small : ℕ → Bool

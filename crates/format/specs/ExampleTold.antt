@@ -8,8 +8,11 @@ use Rattle.format.specs.Refusals.{numberOf}
 use Rattle.format.specs.Parse.{out}
 use Rattle.format.specs.Scripts.{setOut}
 use Rattle.format.specs.Transaction.{txOut}
-use Rattle.format.specs.Told.{Told, told, none, int, flag, nat, maybeValue, toldParsed, toldLooked, toldNumbered, toldListing, toldNth, toldUtxo, toldLock, toldSet, toldTx, toldScript, ToldParse, toldWith, toldParse, ToldOut, toldLeft, toldSetOut, toldTxOut}
-use Rattle.format.specs.declared.PsbtError.the-variants.{InvalidMagic, DuplicateKey, BadValue, OutOfRange, MissingOutputScript, InvalidOutputScripts, PairsFull, BadIndex, NoRoom}
+use Rattle.format.specs.Told.{Told, told, none, int, flag, nat, maybeValue, toldParsed, toldLooked, toldNumbered}
+use Rattle.format.specs.Told.{toldListing, toldNth, toldUtxo, toldLock, toldSet, toldTx, toldScript, ToldParse}
+use Rattle.format.specs.Told.{toldWith, toldParse, ToldOut, toldLeft, toldSetOut, toldTxOut}
+use Rattle.format.specs.declared.PsbtError.the-variants.{InvalidMagic, DuplicateKey, BadValue, OutOfRange, MissingOutputScript}
+use Rattle.format.specs.declared.PsbtError.the-variants.{InvalidOutputScripts, PairsFull, BadIndex, NoRoom}
 use Rattle.format.specs.declared.Maybe.the-variants.{Absent, Present}
 use Rattle.format.specs.declared.Parsed.the-variants as P
 use Rattle.format.specs.declared.Looked.the-variants as K
@@ -108,7 +111,8 @@ left =
     is (toldSetOut (setOut (S.Refused NoRoom) (5 ∷ []))) (toldLeft (told 25 []) (5 ∷ []))
     ∷ is (toldSetOut (setOut (S.Done (record { set = true; written = false })) (5 ∷ 6 ∷ []))) (toldLeft (told 0 (flag true ∷ flag false ∷ [])) (5 ∷ 6 ∷ []))
     ∷ is (toldTxOut (txOut (X.Refused BadValue) (5 ∷ []))) (toldLeft (told 7 []) (5 ∷ []))
-    ∷ is (toldTxOut (txOut (X.Written 2 (record { set = false; written = true })) (5 ∷ 6 ∷ []))) (toldLeft (told 0 (nat 2 ∷ flag false ∷ flag true ∷ [])) (5 ∷ 6 ∷ []))
+    ∷ is (toldTxOut (txOut (X.Written 2 (record { set = false; written = true })) (5 ∷ 6 ∷ [])))
+    (toldLeft (told 0 (nat 2 ∷ flag false ∷ flag true ∷ [])) (5 ∷ 6 ∷ []))
     ∷ []
 
 -- the pair table before the map table of a parse

@@ -98,24 +98,31 @@ layouts =
     ∷ is (transaction (versioned (negsuc 1)) [] [] []) (writes (0xfe ∷ 0xff ∷ 0xff ∷ 0xff ∷ 0 ∷ 0 ∷ 0 ∷ 0 ∷ 0 ∷ 0 ∷ []))
     ∷ is (transaction (versioned (negsuc 0x7fff_ffff)) [] [] []) (writes (0x00 ∷ 0x00 ∷ 0x00 ∷ 0x80 ∷ 0 ∷ 0 ∷ 0 ∷ 0 ∷ 0 ∷ 0 ∷ []))
     -- inputs: txid, index, 00, sequence; an absent sequence is ffffffff
-    ∷ is (transaction (reporting Absent 2 0) (input (bytes (5 ∷ [])) (bytes (6 ∷ [])) (bytes (7 ∷ [])) ∷ input (bytes (8 ∷ [])) (bytes (9 ∷ [])) missing ∷ []) [] [])
+    ∷ is (transaction (reporting Absent 2 0)
+    (input (bytes (5 ∷ [])) (bytes (6 ∷ [])) (bytes (7 ∷ [])) ∷ input (bytes (8 ∷ [])) (bytes (9 ∷ [])) missing ∷ []) [] [])
     (writes (2 ∷ 0 ∷ 0 ∷ 0 ∷ 2 ∷ 5 ∷ 6 ∷ 0 ∷ 7 ∷ 8 ∷ 9 ∷ 0 ∷ 0xff ∷ 0xff ∷ 0xff ∷ 0xff ∷ 0 ∷ 0 ∷ 0 ∷ 0 ∷ 0 ∷ []))
     -- outputs: amount, script length, script
-    ∷ is (transaction (reporting Absent 0 2) [] (record { amount = bytes (5 ∷ []); script = found (6 ∷ 7 ∷ []) } ∷ record { amount = bytes (8 ∷ []); script = found [] } ∷ []) [])
+    ∷ is (transaction (reporting Absent 0 2)
+    [] (record { amount = bytes (5 ∷ []); script = found (6 ∷ 7 ∷ []) } ∷ record { amount = bytes (8 ∷ []); script = found [] } ∷ []) [])
     (writes (2 ∷ 0 ∷ 0 ∷ 0 ∷ 0 ∷ 2 ∷ 5 ∷ 2 ∷ 6 ∷ 7 ∷ 8 ∷ 0 ∷ 0 ∷ 0 ∷ 0 ∷ 0 ∷ []))
     -- a script set, one of 04 before one set
-    ∷ is (transaction (reporting Absent 0 1) [] (record { amount = bytes (5 ∷ []); script = absent } ∷ []) (entry 7)) (writes (2 ∷ 0 ∷ 0 ∷ 0 ∷ 0 ∷ 1 ∷ 5 ∷ 34 ∷ (taprootScript 7 ++ (0 ∷ 0 ∷ 0 ∷ 0 ∷ []))))
+    ∷ is (transaction (reporting Absent 0 1) [] (record { amount = bytes (5 ∷ []); script = absent } ∷ []) (entry 7))
+    (writes (2 ∷ 0 ∷ 0 ∷ 0 ∷ 0 ∷ 1 ∷ 5 ∷ 34 ∷ (taprootScript 7 ++ (0 ∷ 0 ∷ 0 ∷ 0 ∷ []))))
     ∷ is (transaction (reporting Absent 0 2) [] (record { amount = bytes (5 ∷ []); script = found (6 ∷ []) } ∷ bare ∷ []) (entry 7 ++ entry 8))
     (writes (2 ∷ 0 ∷ 0 ∷ 0 ∷ 0 ∷ 2 ∷ 5 ∷ 1 ∷ 6 ∷ 34 ∷ (taprootScript 8 ++ (0 ∷ 0 ∷ 0 ∷ 0 ∷ []))))
     -- the lock time: the fallback, a height before it
     ∷ is (transaction (reporting (Present 0x0403_0201) 0 0) [] [] []) (writes (2 ∷ 0 ∷ 0 ∷ 0 ∷ 0 ∷ 0 ∷ 1 ∷ 2 ∷ 3 ∷ 4 ∷ []))
-    ∷ is (transaction (reporting (Present 0x0403_0201) 1 0) (record { txid = bytes []; index = bytes []; sequence = bytes []; time = missing; height = bytes (5 ∷ 0 ∷ 0 ∷ 0 ∷ []) } ∷ []) [] [])
+    ∷ is (transaction (reporting (Present 0x0403_0201) 1 0)
+    (record { txid = bytes []; index = bytes []; sequence = bytes []; time = missing; height = bytes (5 ∷ 0 ∷ 0 ∷ 0 ∷ []) } ∷ []) [] [])
     (writes (2 ∷ 0 ∷ 0 ∷ 0 ∷ 1 ∷ 0 ∷ 0 ∷ 5 ∷ 0 ∷ 0 ∷ 0 ∷ []))
     -- counts and lengths of 252 and of 253
     ∷ is (transaction (reporting Absent 252 0) (replicate 252 tiny) [] []) (writes (2 ∷ 0 ∷ 0 ∷ 0 ∷ 252 ∷ (replicate 252 0 ++ (0 ∷ 0 ∷ 0 ∷ 0 ∷ 0 ∷ []))))
-    ∷ is (transaction (reporting Absent 253 0) (replicate 253 tiny) [] []) (writes (2 ∷ 0 ∷ 0 ∷ 0 ∷ 0xfd ∷ 253 ∷ 0 ∷ (replicate 253 0 ++ (0 ∷ 0 ∷ 0 ∷ 0 ∷ 0 ∷ []))))
-    ∷ is (transaction (reporting Absent 0 253) [] (replicate 253 tinyOut) []) (writes (2 ∷ 0 ∷ 0 ∷ 0 ∷ 0 ∷ 0xfd ∷ 253 ∷ 0 ∷ (replicate 253 0 ++ (0 ∷ 0 ∷ 0 ∷ 0 ∷ []))))
-    ∷ is (transaction (reporting Absent 0 1) [] (record { amount = bytes []; script = found (replicate 252 6) } ∷ []) []) (writes (2 ∷ 0 ∷ 0 ∷ 0 ∷ 0 ∷ 1 ∷ 252 ∷ (replicate 252 6 ++ (0 ∷ 0 ∷ 0 ∷ 0 ∷ []))))
+    ∷ is (transaction (reporting Absent 253 0)
+    (replicate 253 tiny) [] []) (writes (2 ∷ 0 ∷ 0 ∷ 0 ∷ 0xfd ∷ 253 ∷ 0 ∷ (replicate 253 0 ++ (0 ∷ 0 ∷ 0 ∷ 0 ∷ 0 ∷ []))))
+    ∷ is (transaction (reporting Absent 0 253) [] (replicate 253 tinyOut)
+    []) (writes (2 ∷ 0 ∷ 0 ∷ 0 ∷ 0 ∷ 0xfd ∷ 253 ∷ 0 ∷ (replicate 253 0 ++ (0 ∷ 0 ∷ 0 ∷ 0 ∷ []))))
+    ∷ is (transaction (reporting Absent 0 1) [] (record { amount = bytes []; script = found (replicate 252 6) } ∷ []) [])
+    (writes (2 ∷ 0 ∷ 0 ∷ 0 ∷ 0 ∷ 1 ∷ 252 ∷ (replicate 252 6 ++ (0 ∷ 0 ∷ 0 ∷ 0 ∷ []))))
     ∷ is (transaction (reporting Absent 0 1) [] (record { amount = bytes []; script = found (replicate 253 6) } ∷ []) [])
     (writes (2 ∷ 0 ∷ 0 ∷ 0 ∷ 0 ∷ 1 ∷ 0xfd ∷ 253 ∷ 0 ∷ (replicate 253 6 ++ (0 ∷ 0 ∷ 0 ∷ 0 ∷ []))))
     ∷ []
@@ -148,8 +155,15 @@ lacks =
     ∷ is (transaction (reporting Absent 0 2) [] (tinyOut ∷ bare ∷ []) []) (refuses MissingOutputScript)
     ∷ is (transaction (reporting Absent 1 1) (input missing (bytes []) (bytes []) ∷ []) (bare ∷ []) []) (refuses BadValue)
     -- the lock's refusals are 7
-    ∷ is (transaction (reporting Absent 1 1) (record { txid = bytes []; index = bytes []; sequence = bytes []; time = bytes (5 ∷ 0 ∷ 0 ∷ 0 ∷ []); height = missing } ∷ []) (bare ∷ []) []) (refuses BadValue)
-    ∷ is (transaction (reporting Absent 1 1) (record { txid = bytes []; index = bytes []; sequence = bytes []; time = misfit; height = missing } ∷ []) (bare ∷ []) []) (refuses BadValue)
+    ∷ is (transaction (reporting Absent 1 1) (record {
+      txid = bytes [];
+      index = bytes [];
+      sequence = bytes [];
+      time = bytes (5 ∷ 0 ∷ 0 ∷ 0 ∷ []);
+      height = missing;
+    } ∷ []) (bare ∷ []) []) (refuses BadValue)
+    ∷ is (transaction (reporting Absent 1 1)
+    (record { txid = bytes []; index = bytes []; sequence = bytes []; time = misfit; height = missing } ∷ []) (bare ∷ []) []) (refuses BadValue)
     ∷ []
 
 -- so a transaction is refused
@@ -182,14 +196,18 @@ tx53 = 2 ∷ 0 ∷ 0 ∷ 0 ∷ 0 ∷ 1 ∷ 0xd0 ∷ 7 ∷ 0 ∷ 0 ∷ 0 ∷ 0 �
 unfoldable pub whole : List (Row ToldOut)
 whole =
     is (calls (shows [] ∷ shownIn ∷ plainOut ∷ []) 1 1 fresh [] (replicate 61 9)) (toldLeft (told 0 (nat 61 ∷ flag false ∷ flag true ∷ [])) tx61)
-    ∷ is (calls (shows [] ∷ shownIn ∷ plainOut ∷ []) 1 1 fresh [] (replicate 63 9)) (toldLeft (told 0 (nat 61 ∷ flag false ∷ flag true ∷ [])) (tx61 ++ (9 ∷ 9 ∷ [])))
+    ∷ is (calls (shows [] ∷ shownIn ∷ plainOut ∷ []) 1 1 fresh [] (replicate 63 9))
+    (toldLeft (told 0 (nat 61 ∷ flag false ∷ flag true ∷ [])) (tx61 ++ (9 ∷ 9 ∷ [])))
     -- a second transaction, and one after scripts were set
-    ∷ is (calls (shows [] ∷ shownIn ∷ plainOut ∷ []) 1 1 (record { set = false; written = true }) [] (replicate 61 9)) (toldLeft (told 0 (nat 61 ∷ flag false ∷ flag true ∷ [])) tx61)
+    ∷ is (calls (shows [] ∷ shownIn ∷ plainOut ∷ []) 1 1 (record { set = false; written = true }) [] (replicate 61 9))
+    (toldLeft (told 0 (nat 61 ∷ flag false ∷ flag true ∷ [])) tx61)
     ∷ is (calls (shows [] ∷ silentOut ∷ []) 0 1 served (entry 7) (replicate 54 9)) (toldLeft (told 0 (nat 53 ∷ flag true ∷ flag true ∷ [])) (tx53 ++ (9 ∷ [])))
-    ∷ is (calls (shows [] ∷ silentOut ∷ []) 0 1 (record { set = true; written = true }) (entry 7) (replicate 53 9)) (toldLeft (told 0 (nat 53 ∷ flag true ∷ flag true ∷ [])) tx53)
+    ∷ is (calls (shows [] ∷ silentOut ∷ []) 0 1 (record { set = true; written = true }) (entry 7) (replicate 53 9))
+    (toldLeft (told 0 (nat 53 ∷ flag true ∷ flag true ∷ [])) tx53)
     -- a table that was not set counts for nothing
     ∷ is (calls (shows [] ∷ silentOut ∷ []) 0 1 fresh (entry 7) (replicate 53 9)) (toldLeft (told 17 []) (replicate 53 9))
-    ∷ is (calls (shows [] ∷ []) 0 0 fresh (9 ∷ []) (replicate 10 9)) (toldLeft (told 0 (nat 10 ∷ flag false ∷ flag true ∷ [])) (2 ∷ 0 ∷ 0 ∷ 0 ∷ 0 ∷ 0 ∷ 0 ∷ 0 ∷ 0 ∷ 0 ∷ []))
+    ∷ is (calls (shows [] ∷ []) 0 0 fresh (9 ∷ []) (replicate 10 9))
+    (toldLeft (told 0 (nat 10 ∷ flag false ∷ flag true ∷ [])) (2 ∷ 0 ∷ 0 ∷ 0 ∷ 0 ∷ 0 ∷ 0 ∷ 0 ∷ 0 ∷ 0 ∷ []))
     -- an unfit map, whichever it is, before all else
     ∷ is (calls (hides BadIndex ∷ shownIn ∷ plainOut ∷ []) 1 1 fresh [] (9 ∷ [])) (toldLeft (told 24 []) (9 ∷ []))
     ∷ is (calls (shows [] ∷ hides BadIndex ∷ plainOut ∷ []) 1 1 fresh [] (9 ∷ [])) (toldLeft (told 24 []) (9 ∷ []))

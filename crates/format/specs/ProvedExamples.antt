@@ -55,7 +55,8 @@ proved =
     ∷ P 10 (fileFWith [] (time 500_000_000) script) (likeF 9 (0x00 ∷ 0x65 ∷ 0xcd ∷ 0x1d ∷ []))
     ∷ P 10 (fileFWith [] (time 499_999_999) script) (noTx 9)
     ∷ P 11 (fileFWith (fallback 1_700_000_000) (height 800_000) script)
-    (goes (acceptedWith (nat 1_700_000_000) none 1 1 10 3) (toldLeft (told 0 (nat 61 ∷ flag false ∷ flag true ∷ [])) (txF (0x00 ∷ 0x35 ∷ 0x0c ∷ 0x00 ∷ []) ++ replicate 3 0)))
+    (goes (acceptedWith (nat 1_700_000_000) none 1 1 10 3)
+    (toldLeft (told 0 (nat 61 ∷ flag false ∷ flag true ∷ [])) (txF (0x00 ∷ 0x35 ∷ 0x0c ∷ 0x00 ∷ []) ++ replicate 3 0)))
     ∷ P 12 (fileFWith [] [] (script ++ (1 ∷ 0x7f ∷ 0 ∷ []))) (likeF 9 (0 ∷ 0 ∷ 0 ∷ 0 ∷ []))
     ∷ P 13 (magic ++ (txVersion ++ (inputCount 0 ++ (outputCount 0 ++ (version 2 ++ (0xfd ∷ 0 ∷ 0 ∷ [])))))) likeE
     ∷ []

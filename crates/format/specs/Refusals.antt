@@ -1,7 +1,11 @@
 -- The refusals by number: the Rust's twenty in its order, then five for lent memory.
 use Prim.Native.Nat.{ℕ}
 use Rattle.format.specs.declared.PsbtError.{PsbtError}
-use Rattle.format.specs.declared.PsbtError.the-variants.{InvalidMagic, UnexpectedEof, InvalidCompactSize, MapTerminatorMissing, DuplicateKey, UnsortedKeys, BadValue, MissingCounts, MissingOutputIndex, MissingRedeemScript, MissingWitnessScript, CountsTooLarge, NotAllowed, OutOfRange, UnknownOutputType, Unsupported, MissingOutputScript, InvalidSilentPayment, InvalidOutputScripts, InvalidSighashType, TooLong, PairsFull, MapsFull, BadIndex, NoRoom}
+use Rattle.format.specs.declared.PsbtError.the-variants.{InvalidMagic, UnexpectedEof, InvalidCompactSize, MapTerminatorMissing, DuplicateKey}
+use Rattle.format.specs.declared.PsbtError.the-variants.{UnsortedKeys, BadValue, MissingCounts, MissingOutputIndex, MissingRedeemScript}
+use Rattle.format.specs.declared.PsbtError.the-variants.{MissingWitnessScript, CountsTooLarge, NotAllowed, OutOfRange, UnknownOutputType}
+use Rattle.format.specs.declared.PsbtError.the-variants.{Unsupported, MissingOutputScript, InvalidSilentPayment, InvalidOutputScripts}
+use Rattle.format.specs.declared.PsbtError.the-variants.{InvalidSighashType, TooLong, PairsFull, MapsFull, BadIndex, NoRoom}
 
 -- the number that the paper gives a refusal
 unfoldable pub numberOf : PsbtError → ℕ

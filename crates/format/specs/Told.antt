@@ -53,7 +53,8 @@ maybeValue (Present n) = nat n
 -- of a parse: version, fallback, modifiable, both counts and the entries used; of a refusal the entries used
 unfoldable pub toldParsed : Parsed → Told
 toldParsed (P.Accepted s p m) =
-    told 0 (int (s .«tx_version») ∷ maybeValue (s .«fallback_locktime») ∷ maybeValue (s .«tx_modifiable») ∷ nat (s .inputs) ∷ nat (s .outputs) ∷ nat p ∷ nat m ∷ [])
+    told 0 (int (s .«tx_version») ∷ maybeValue (s .«fallback_locktime») ∷ maybeValue (s .«tx_modifiable»)
+    ∷ nat (s .inputs) ∷ nat (s .outputs) ∷ nat p ∷ nat m ∷ [])
 toldParsed (P.Refused e p m) = told (numberOf e) (nat p ∷ nat m ∷ [])
 
 -- of a lookup: start and length
@@ -84,7 +85,8 @@ toldUtxo (U.Refused e) = told (numberOf e) []
 toldUtxo U.Absent = told 0 []
 toldUtxo (U.Is a s n) = told 0 (nat a ∷ nat s ∷ nat n ∷ [])
 
--- what decided the lock: 0 the fallback, 1 a height, 2 a time; of a refusal by 7 the rule: 1 both kinds, 2 a height too great, 3 a time too small, 4 a wrong size
+-- what decided the lock: 0 the fallback, 1 a height, 2 a time; of a refusal by 7 the rule: 1 both
+-- kinds, 2 a height too great, 3 a time too small, 4 a wrong size
 unfoldable pub toldLock : Lock → Told
 toldLock (D.Refused e) = told (numberOf e) []
 toldLock (D.Fallback n) = told 0 (nat 0 ∷ nat n ∷ [])

@@ -1,10 +1,10 @@
 -- Laws of keys without data: such a key is one byte, its type.
-use mathlib.Core.Path.{_≡_, refl, sym, ap}
+use mathlib.Core.Path.{_≡_, refl, sym, _∙_, ap}
 use mathlib.Core.Bool.{Bool, true, false}
 use mathlib.Core.List.{List, [], _∷_}
 use Prim.Native.Nat.{ℕ}
 use native.Mathlib.Omega.{arith}
-use borrow.Author.Tests.{eqb-true, eqb-false}
+use borrow.Author.Tests.{ne-eqb, eqb-true, eqb-false}
 use lib.Dec.{eqb}
 use lib.ListN.{length, getD}
 use Rattle.format.specs.Keys.{keyOf, same}
@@ -28,4 +28,7 @@ pub bare-not : (key : List ℕ) (t : ℕ) → (length key ≡ 1 → ⊥) → fal
 unfolding keyOf
 bare-not key t h = sym (no-by (same (t ∷ []) key) (λ q. h (ap length (sym (same-is (t ∷ []) key q)))))
 
-pub ruleset bare = (bare-one, bare-not)
+pub bare-other : (key : List ℕ) (t : ℕ) → (length key ≡ 1 → ⊥) → eqb (length key) 1 ≡ same (keyOf t []) key
+bare-other key t h = ne-eqb (length key) 1 h ∙ bare-not key t h
+
+pub ruleset bare = (bare-one, bare-other)

@@ -1,5 +1,6 @@
 -- Laws of comparing two keys byte by byte: the order from a place on is the order of the whole as long as the bytes before it are equal.
-use mathlib.Core.Path.{_≡_, refl}
+use mathlib.Core.Path.{_≡_, refl, sym, _∙_, ap}
+use mathlib.Core.Bool.{Bool}
 use mathlib.Core.List.{List}
 use Prim.Native.Nat.{ℕ, _+_, _≤_, _<_}
 use native.Mathlib.Omega.{arith}
@@ -7,8 +8,9 @@ use native.Mathlib.Numerals.{add-one}
 use borrow.Author.Tests.{lt-ltb, le-ltb}
 use lib.ListN.{length, drop, getD, drop-of-length-le}
 use lib.Seq.{drop-cons}
-use Rattle.format.specs.Keys.{order}
+use Rattle.format.specs.Keys.{order, isBelow, isSame}
 use Rattle.keys.specs.Fronts.{Front}
+use Rattle.format.specs.declared.Order.{Order}
 use Rattle.format.specs.declared.Order.the-variants.{Below, Same, Above}
 
 -- from i on the order is that of the whole
@@ -61,3 +63,11 @@ module _ (a b : List ℕ) where
     first-above l = is-above a b 0 refl (omega arith) (omega arith) l
 
 pub ruleset firsts = (first-none, first-below, first-above)
+
+-- what is said of an order, by the case that it is
+module _ (o x : Order) (b : Bool) (e : o ≡ x) where
+  pub below-by : b ≡ isBelow x → b ≡ isBelow o
+  below-by h = h ∙ sym (ap isBelow e)
+
+  pub same-by : b ≡ isSame x → b ≡ isSame o
+  same-by h = h ∙ sym (ap isSame e)

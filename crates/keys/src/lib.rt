@@ -6,10 +6,10 @@ ghost use mathlib.Core.Path.{_≡_};
 ghost use mathlib.Core.List.{[]};
 ghost use Prim.Native.Nat.{_+_, _≤_};
 ghost use lib.ListN.{length};
-ghost use Rattle.format.specs.Keys.{order, keyOf, same};
+ghost use Rattle.format.specs.Keys.{order, isBelow, isSame, keyOf, same};
 ghost use Rattle.keys.specs.Fronts.{blockAt, Front};
 
-// The four bytes from `i` on, and the eight, as one number.
+// The four bytes from `i` on as one number.
 fn four_at(s: &[u8], i: usize) -> u32
     requires { ⌜ i + 4 ≤ length (now s) ⌝ }
     ensures { λ r. ⌜ r ≡ blockAt 4 (now (s .entry)) i ⌝ }
@@ -17,6 +17,7 @@ fn four_at(s: &[u8], i: usize) -> u32
     u32_from_le_bytes(&s[i..i + 4])
 }
 
+// The eight bytes from `i` on as one number.
 fn eight_at(s: &[u8], i: usize) -> u64
     requires { ⌜ i + 8 ≤ length (now s) ⌝ }
     ensures { λ r. ⌜ r ≡ blockAt 8 (now (s .entry)) i ⌝ }
@@ -101,13 +102,31 @@ pub fn compare(a: &[u8], b: &[u8]) -> Order
     compare_blocks(a, b)
 }
 
+// An order is that of a smaller key to a greater one.
+pub fn is_below(o: Order) -> bool
+    ensures { λ r. ⌜ r ≡ isBelow o ⌝ }
+{
+    match o {
+        Order::Below => true,
+        Order::Same => false,
+        Order::Above => false,
+    }
+}
+
+// An order is that of equal keys.
+pub fn is_same(o: Order) -> bool
+    ensures { λ r. ⌜ r ≡ isSame o ⌝ }
+{
+    match o {
+        Order::Below => false,
+        Order::Same => true,
+        Order::Above => false,
+    }
+}
+
 // A key is a type without data.
 pub fn is_bare(key: &[u8], key_type: u8) -> bool
     ensures { λ r. ⌜ r ≡ same (keyOf «key_type» []) (now (key .entry)) ⌝ }
 {
-    if key.len() == 1 {
-        key[0] == key_type
-    } else {
-        false
-    }
+    key.len() == 1 && key[0] == key_type
 }

@@ -68,17 +68,18 @@ walk-is a i (x ∷ xs) =
     )
     (walk-is (seenIn a i x) (i + 1) xs)
 
+-- input j asks first, and a asks for the most
+abbrev mostly : ℕ → D.Asked → Kind
+mostly j a = Asked (record { first = j; number = a .number; input = a .input })
+
 -- of numbers asked for, the first and the greatest
-top-greatest : (j : ℕ) (a : D.Asked) (more : List D.Asked)
-    → topped (Asked (record { first = j; number = a .number; input = a .input })) more ≡ Asked (record { first = j; number = (greatest a more) .number; input = (greatest a more) .input })
+top-greatest : (j : ℕ) (a : D.Asked) (more : List D.Asked) → topped (mostly j a) more ≡ mostly j (greatest a more)
 unfolding topped raised greatest
 top-greatest j a [] = refl
 top-greatest j a (b ∷ more) = by (ltb (a .number) (b .number)) (top-greatest j a more) (top-greatest j b more)
   where
-    by : (t : Bool) → topped (Asked (record { first = j; number = a .number; input = a .input })) more ≡ Asked (record { first = j; number = (greatest a more) .number; input = (greatest a more) .input })
-        → topped (Asked (record { first = j; number = b .number; input = b .input })) more ≡ Asked (record { first = j; number = (greatest b more) .number; input = (greatest b more) .input })
-        → topped (pick t (Asked (record { first = j; number = b .number; input = b .input })) (Asked (record { first = j; number = a .number; input = a .input }))) more
-        ≡ Asked (record { first = j; number = (greatest (pick t b a) more) .number; input = (greatest (pick t b a) more) .input })
+    by : (t : Bool) → topped (mostly j a) more ≡ mostly j (greatest a more) → topped (mostly j b) more ≡ mostly j (greatest b more)
+        → topped (pick t (mostly j b) (mostly j a)) more ≡ mostly j (greatest (pick t b a) more)
     by true p q = q
     by false p q = p
 
@@ -90,7 +91,8 @@ kinds-are fallback [] (t ∷ ts) = rw (top-greatest (t .input) t ts)
 kinds-are fallback (h ∷ hs) (t ∷ ts) = rw (top-greatest (h .input) h hs, top-greatest (t .input) t ts)
 
 lists-are : (fallback : Maybe) (ms : List ℕ) (hs ts : List D.Asked)
-    → decideAsks fallback (record { fault = faulted Nowhere ms; height = topped Unasked hs; time = topped Unasked ts }) ≡ wellFormed ms (D.decideBy fallback hs ts)
+    → decideAsks fallback (record { fault = faulted Nowhere ms; height = topped Unasked hs; time = topped Unasked ts })
+    ≡ wellFormed ms (D.decideBy fallback hs ts)
 unfolding decideAsks decideBy wellFormed faulted
 lists-are fallback [] hs ts = kinds-are fallback hs ts
 lists-are fallback (i ∷ more) hs ts = refl

@@ -15,9 +15,9 @@ use Rattle.format.specs.declared.Ruled.{Ruled}
 use Rattle.format.specs.declared.Ruled.the-variants as R
 use Rattle.format.specs.declared.Lock.{Lock}
 use Rattle.format.specs.declared.Lock.the-variants as L
-use Rattle.all_maps.specs.Alls.{ruledBy, AllFit, inAt, from, insOf}
-use Rattle.all_maps.proofs.Runs.{from-none, from-one}
-use Rattle.all_maps.proofs.Gathers.{all-are, all-not, all-reported, input-whole}
+use Rattle.all_maps_fit.specs.Alls.{ruledBy, AllFit, inAt, from, insOf}
+use Rattle.all_maps_fit.proofs.Runs.{from-none, from-one}
+use Rattle.all_maps_fit.proofs.Gathers.{all-are, all-not, all-reported, input-whole}
 use Rattle.lock.specs.declared.Most.{Most}
 use Rattle.lock.specs.declared.Kind.{Kind}
 use Rattle.lock.specs.declared.Kind.the-variants.{Unasked, Asked}
@@ -102,7 +102,8 @@ module _ (fallback : Maybe) (a : Asks) where
 pub ruleset rules = (no-fault, a-fault)
 
 -- where all maps are fit
-pub lock-fit : (f P M : List ℕ) (s : Psbt) → AllFit f P M s → (a : Asks) (r : Lock) → a ≡ walk noAsks 0 (insOf f P M s) → r ≡ decideAsks (s .«fallback_locktime») a
+pub lock-fit : (f P M : List ℕ) (s : Psbt) → AllFit f P M s → (a : Asks) (r : Lock) → a ≡ walk noAsks 0 (insOf f P M s)
+    → r ≡ decideAsks (s .«fallback_locktime») a
     → r ≡ lockDecided (view f P M s) s
 unfolding lockDecided lockBy
 lock-fit f P M s k a r ea er =

@@ -2,13 +2,11 @@
 use mathlib.Core.Path.{_≡_, sym, _∙_, ap}
 use mathlib.Core.Bool.{Bool, true, false}
 use mathlib.Core.List.{List, map}
-use Prim.Native.Nat.{ℕ, _+_, _^_, _≤_, _<_}
+use Prim.Native.Nat.{ℕ, _+_, _≤_, _<_}
 use native.Mathlib.Omega.{arith}
 use borrow.Author.Tests.{lt-ltb, le-ltb}
-use lib.ListN.{length, drop}
+use lib.ListN.{drop}
 use lib.Seq.{take-take}
-use mir.Syntax.{w64}
-use mir.Val.{Fits}
 use Rattle.format.specs.Entries.{shown}
 use Rattle.format.specs.Numbers.{le}
 use Rattle.format.specs.Lookups.{part}
@@ -16,14 +14,13 @@ use Rattle.format.specs.Locks.{inOf}
 use Rattle.format.specs.declared.MapEntry.{MapEntry}
 use Rattle.format.specs.declared.Looked.the-variants as K
 use Rattle.wire.specs.Leads.{lead}
-use Rattle.entries.specs.Words.{mapAt}
-use Rattle.entries.proofs.Tables.{map-count}
+use Rattle.entries.specs.Words.{mapCount, mapAt}
 use Rattle.fitness.specs.Fits.{entriesOf}
-use Rattle.all_maps.specs.Alls.{Usable, Whole, pairsOf, inAt}
-use Rattle.all_maps.specs.Places.{sizedIn, inputIn}
-use Rattle.all_maps.specs.declared.SizedAt.{SizedAt}
-use Rattle.all_maps.specs.declared.SizedAt.the-variants as S
-use Rattle.all_maps.specs.declared.InputAt.{InputAt}
+use Rattle.all_maps_fit.specs.Alls.{Usable, Whole, pairsOf, inAt}
+use Rattle.all_maps_fit.specs.Places.{sizedIn, inputIn}
+use Rattle.all_maps_fit.specs.declared.SizedAt.{SizedAt}
+use Rattle.all_maps_fit.specs.declared.SizedAt.the-variants as S
+use Rattle.all_maps_fit.specs.declared.InputAt.{InputAt}
 use Rattle.lock.specs.declared.Wish.{Wish}
 use Rattle.lock.specs.declared.Wish.the-variants.{Nothing, Wrong, Number}
 use Rattle.lock.specs.declared.Most.{Most}
@@ -114,25 +111,28 @@ pub see-is : (a : Asks) (i : ℕ) (h t : Wish) (c : Fault) (x y : Kind) → c �
 unfolding seen
 see-is a i h t c x y p q r = λ j. record { fault = p j; height = q j; time = r j }
 
-pub see-at : (f : List ℕ) (x : InputAt) (a r : Asks) (i : ℕ) (h t : Wish) → h ≡ wishOf (sizedIn 4 f (x .height)) → t ≡ wishOf (sizedIn 4 f (x .time)) → r ≡ seen a i h t
+pub see-at : (f : List ℕ) (x : InputAt) (a r : Asks) (i : ℕ) (h t : Wish) → h ≡ wishOf (sizedIn 4 f (x .height)) → t ≡ wishOf (sizedIn 4 f (x .time))
+    → r ≡ seen a i h t
     → r ≡ seenIn a i (inputIn f x)
 unfolding seenIn inputIn
 see-at f x a r i h t eh et q = q ∙ rw (eh, et)
 
 -- the input of a map's entry
-pub shown-at : (f P M : List ℕ) (i : ℕ) (m : MapEntry) → m ≡ mapAt M (1 + i) → (x : InputAt) → inputIn f x ≡ inOf (map (shown f) (entriesOf P m)) → inputIn f x ≡ inAt f P M i
+pub shown-at : (f P M : List ℕ) (i : ℕ) (m : MapEntry) → m ≡ mapAt M (1 + i) → (x : InputAt) → inputIn f x ≡ inOf (map (shown f) (entriesOf P m))
+    → inputIn f x ≡ inAt f P M i
 unfolding inAt pairsOf
 shown-at f P M i m at x e = e ∙ ap (λ (y : MapEntry). inOf (map (shown f) (entriesOf P y))) at
 
 module _ (f P M : List ℕ) (i : ℕ) (w : Whole f P M (1 + i)) where
-  pub next-fits : length M < 2 ^ 64 → Fits w64 (1 + i)
-  next-fits l = record { fits = omega (arith, w .listed, map-count M) }
+  pub next-listed : 1 + i < mapCount M
+  next-listed = w .listed
 
   module _ (m : MapEntry) (at : m ≡ mapAt M (1 + i)) where
     pub next-usable : Usable f P m
     next-usable = rw at (w .usable)
 
-    pub see-input : (x : InputAt) → inputIn f x ≡ inOf (map (shown f) (entriesOf P m)) → (a r : Asks) → r ≡ seenIn a i (inputIn f x) → r ≡ seenIn a i (inAt f P M i)
+    pub see-input : (x : InputAt) → inputIn f x ≡ inOf (map (shown f) (entriesOf P m)) → (a r : Asks) → r ≡ seenIn a i (inputIn f x)
+        → r ≡ seenIn a i (inAt f P M i)
     see-input x e a r q = q ∙ ap (seenIn a i) (shown-at f P M i m at x e)
 
-pub ruleset sees = (next-fits, next-usable, see-input)
+pub ruleset sees = (next-listed, next-usable, see-input)

@@ -25,6 +25,7 @@ wishOf missing = Nothing
 wishOf misfit = Wrong
 wishOf (is v) = Number (le v)
 
+-- the field has a wrong length
 unfoldable pub isWrong : Wish → Bool
 isWrong Nothing = false
 isWrong Wrong = true
@@ -35,6 +36,7 @@ unfoldable pub raised : Kind → ℕ → ℕ → Kind
 raised Unasked n i = Asked (record { first = i; number = n; input = i })
 raised (Asked m) n i = pick (ltb (m .number) n) (Asked (record { first = m .first; number = n; input = i })) (Asked m)
 
+-- the same by what the input asks for
 unfoldable pub toppedBy : Kind → Wish → ℕ → Kind
 toppedBy k Nothing i = k
 toppedBy k Wrong i = k
@@ -49,6 +51,7 @@ faultBy Nowhere h t i = pick (isWrong h || isWrong t) (Input i) Nowhere
 unfoldable pub seen : Asks → ℕ → Wish → Wish → Asks
 seen a i h t = record { fault = faultBy (a .fault) h t i; height = toppedBy (a .height) h i; time = toppedBy (a .time) t i }
 
+-- with an input more, by its fields
 unfoldable pub seenIn : Asks → ℕ → In → Asks
 seenIn a i x = seen a i (wishOf (x .height)) (wishOf (x .time))
 
@@ -61,10 +64,11 @@ unfoldable pub walk : Asks → ℕ → List In → Asks
 walk a i [] = a
 walk a i (x ∷ xs) = walk (seenIn a i x) (i + 1) xs
 
--- the greatest number and its input, judged
+-- the greatest height and its input, judged
 unfoldable pub heightBy : ℕ → ℕ → Lock
 heightBy n i = heightLock (record { number = n; input = i })
 
+-- the greatest time and its input, judged
 unfoldable pub timeBy : ℕ → ℕ → Lock
 timeBy n i = timeLock (record { number = n; input = i })
 
@@ -75,11 +79,12 @@ decideKinds fallback (Asked h) Unasked = heightBy (h .number) (h .input)
 decideKinds fallback Unasked (Asked t) = timeBy (t .number) (t .input)
 decideKinds fallback (Asked h) (Asked t) = L.BothKinds (h .first) (t .first)
 
--- by all
+-- by both kinds, unless a field has a wrong length
 unfoldable pub decideBy : Maybe → Asks → Fault → Lock
 decideBy fallback a Nowhere = decideKinds (orZero fallback) (a .height) (a .time)
 decideBy fallback a (Input i) = L.Malformed i
 
+-- by all that inputs ask for
 unfoldable pub decideAsks : Maybe → Asks → Lock
 decideAsks fallback a = decideBy fallback a (a .fault)
 

@@ -1,21 +1,23 @@
 // The lock time of a transaction, and what decided it. Nothing else looks inside the rule.
-use all_maps::InputAt;
-use all_maps::SizedAt;
+use all_maps_fit::InputAt;
+use all_maps_fit::SizedAt;
 use format::Lock;
 use format::Looked;
 use format::Maybe;
 use format::Psbt;
 use format::PsbtError;
 use format::Ruled;
+use format::THRESHOLD;
 ghost use mathlib.Core.Path.{_≡_};
 ghost use Prim.Native.Nat.{_+_};
 ghost use Rattle.format.specs.Tables.{view};
 ghost use Rattle.format.specs.Locks.{lockOf};
 ghost use Rattle.format.specs.Transaction.{lockDecided};
 ghost use Rattle.format.specs.Told.{toldLock};
-ghost use Rattle.all_maps.specs.Alls.{Whole, AllFit, inAt, insOf};
-ghost use Rattle.all_maps.specs.Places.{sizedIn, inputIn};
-ghost use Rattle.lock.specs.Asks.{wishOf, isWrong, raised, toppedBy, faultBy, seen, seenIn, noAsks, walk, heightBy, timeBy, decideKinds, decideAsks, lockedBy};
+ghost use Rattle.all_maps_fit.specs.Alls.{Whole, AllFit, inAt, insOf};
+ghost use Rattle.all_maps_fit.specs.Places.{sizedIn, inputIn};
+ghost use Rattle.lock.specs.Asks.{wishOf, isWrong, raised, toppedBy, faultBy, seen, seenIn, noAsks, walk};
+ghost use Rattle.lock.specs.Asks.{heightBy, timeBy, decideKinds, decideAsks, lockedBy};
 
 // What an input asks for by one of its fields.
 pub enum Wish {
@@ -56,9 +58,6 @@ pub enum LockTime {
     Is(u32),
 }
 
-// A lock number below this is a block height, any other a time.
-const THRESHOLD: u32 = 500_000_000;
-
 // What an input asks for by the field that stands at a place.
 fn wish_at(file: &[u8], x: SizedAt) -> Wish
     ensures { λ r. ⌜ r ≡ wishOf (sizedIn 4 (now (file .entry)) x) ⌝ }
@@ -73,6 +72,7 @@ fn wish_at(file: &[u8], x: SizedAt) -> Wish
     }
 }
 
+// The field has a wrong length.
 fn is_wrong(wish: Wish) -> bool
     ensures { λ r. ⌜ r ≡ isWrong wish ⌝ }
 {
@@ -96,9 +96,9 @@ fn raise(kind: Kind, number: u32, input: u64) -> Kind
         Kind::Asked(most) => {
             if most.number < number {
                 Kind::Asked(Most {
-                    first: most.first,
                     number,
                     input,
+                    ..most
                 })
             } else {
                 Kind::Asked(most)
@@ -107,6 +107,7 @@ fn raise(kind: Kind, number: u32, input: u64) -> Kind
     }
 }
 
+// The same by what an input asks for: nothing, or a number.
 fn ask_more(kind: Kind, wish: Wish, input: u64) -> Kind
     ensures { λ r. ⌜ r ≡ toppedBy kind wish input ⌝ }
 {
@@ -163,8 +164,8 @@ fn see_input(file: &[u8], pairs: &[u32], maps: &[u32], i: u64, asks: Asks) -> As
     requires { ⌜ Whole (now file) (now pairs) (now maps) (1 + i) ⌝ }
     ensures { λ r. ⌜ r ≡ seenIn asks i (inAt (now (file .entry)) (now (pairs .entry)) (now (maps .entry)) i) ⌝ }
 {
-    let m = entries::map_entry(maps, (1 + i) as usize);
-    see_at(file, asks, i, all_maps::input_at(file, pairs, m))
+    let m = all_maps_fit::input_entry(maps, i);
+    see_at(file, asks, i, all_maps_fit::input_at(file, pairs, m))
 }
 
 // What is asked for before the first input is seen: nothing.
@@ -192,7 +193,7 @@ fn all_asks(file: &[u8], pairs: &[u32], maps: &[u32], psbt: Psbt) -> Asks
     asks
 }
 
-// A greatest height must be a height, a greatest time a time.
+// A greatest height must be a height.
 fn height_lock(number: u32, input: u64) -> Lock
     ensures { λ r. ⌜ r ≡ heightBy number input ⌝ }
 {
@@ -203,6 +204,7 @@ fn height_lock(number: u32, input: u64) -> Lock
     }
 }
 
+// A greatest time must be a time.
 fn time_lock(number: u32, input: u64) -> Lock
     ensures { λ r. ⌜ r ≡ timeBy number input ⌝ }
 {
@@ -249,7 +251,7 @@ pub fn decide(fallback: Maybe, asks: Asks) -> Lock
 pub fn lock_decided(file: &[u8], pairs: &[u32], maps: &[u32], psbt: Psbt) -> Lock
     ensures { λ r. ⌜ toldLock r ≡ toldLock (lockDecided (view (now (file .entry)) (now (pairs .entry)) (now (maps .entry)) psbt) psbt) ⌝ }
 {
-    match all_maps::all_fit(file, pairs, maps, psbt) {
+    match all_maps_fit::all_fit(file, pairs, maps, psbt) {
         Ruled::Refused(e) => Lock::Refused(e),
         Ruled::Passed => {
             let fallback = psbt.fallback_locktime;

@@ -20,7 +20,9 @@ use Rattle.format.proofs.Tests.{pick-by}
 use Rattle.text.proofs.Sizes.{decimal-most, decimal-few}
 use Rattle.utc.proofs.Sizes.{date-most}
 use Rattle.reasons.proofs.Sizes.{meaning-most, refused-most}
-use Rattle.lock_lines.specs.Lines.{heightNumber, timeNumber, lockText, fallbackText, headLine, heightText, timeText, inputLine, lackText, txLine, outcome, fallbackDecided, heightDecided, timeDecided, bothLine, tooGreatLine, tooSmallLine, malformedLine, verdict}
+use Rattle.lock_lines.specs.Lines.{heightNumber, timeNumber, lockText, fallbackText, headLine, heightText, timeText}
+use Rattle.lock_lines.specs.Lines.{inputLine, lackText, txLine, outcome, fallbackDecided, heightDecided, timeDecided}
+use Rattle.lock_lines.specs.Lines.{bothLine, tooGreatLine, tooSmallLine, malformedLine, verdict}
 
 -- a height, a time and a lock time
 height-number : (n : ℕ) → length (heightNumber n) ≤ 27
@@ -85,6 +87,8 @@ verdict-most (L.Height n i) x = simp length-append (omega (arith, decimal-most i
 verdict-most (L.Time n i) x = simp length-append (omega (arith, decimal-most i, outcome-most n x))
 verdict-most (L.Fallback n) x = omega (arith, outcome-most n x)
 verdict-most (L.BothKinds h t) x = simp length-append (omega (arith, decimal-most h, decimal-most t, decimal-most (numberOf BadValue)))
-verdict-most (L.HeightTooGreat n i) x = simp length-append (omega (arith, decimal-most n, decimal-most i, decimal-most threshold, decimal-most (numberOf BadValue)))
-verdict-most (L.TimeTooSmall n i) x = simp length-append (omega (arith, decimal-most n, decimal-most i, decimal-most threshold, decimal-most (numberOf BadValue)))
+verdict-most (L.HeightTooGreat n i) x =
+    simp length-append (omega (arith, decimal-most n, decimal-most i, decimal-most threshold, decimal-most (numberOf BadValue)))
+verdict-most (L.TimeTooSmall n i) x =
+    simp length-append (omega (arith, decimal-most n, decimal-most i, decimal-most threshold, decimal-most (numberOf BadValue)))
 verdict-most (L.Malformed i) x = simp length-append (omega (arith, decimal-most i, decimal-most (numberOf BadValue)))

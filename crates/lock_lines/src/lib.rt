@@ -3,6 +3,7 @@ use format::Lock;
 use format::Maybe;
 use format::Numbered;
 use format::PsbtError;
+use format::THRESHOLD;
 use format::UnsignedTx;
 use reasons::put_meaning;
 use reasons::put_refused;
@@ -11,10 +12,9 @@ use text::put_decimal;
 use utc::put_date;
 ghost use mathlib.Core.Path.{_≡_};
 ghost use Rattle.text.specs.Spots.{spot, lay};
-ghost use Rattle.lock_lines.specs.Lines.{heightNumber, timeNumber, lockText, fallbackText, headLine, heightText, timeText, inputName, inputLine, lackText, txLine, outcome, fallbackDecided, decided, heightDecided, timeDecided, refusedEnd, bothLine, misread, tooGreatLine, tooSmallLine, malformedLine, verdict};
-
-// A lock number below this is a block height, any other a time.
-const THRESHOLD: u32 = 500_000_000;
+ghost use Rattle.lock_lines.specs.Lines.{heightNumber, timeNumber, lockText, fallbackText, headLine, heightText, timeText, inputName};
+ghost use Rattle.lock_lines.specs.Lines.{inputLine, lackText, txLine, outcome, fallbackDecided, decided, heightDecided, timeDecided};
+ghost use Rattle.lock_lines.specs.Lines.{refusedEnd, bothLine, misread, tooGreatLine, tooSmallLine, malformedLine, verdict};
 
 // `height N`
 fn put_height_number(out: &mut [u8], at: usize, n: u64) -> usize
@@ -115,7 +115,7 @@ pub fn put_input(out: &mut [u8], at: usize, i: u64, h: Numbered, t: Numbered) ->
 fn put_lack(out: &mut [u8], at: usize, e: PsbtError) -> usize
     ensures { λ r. ⌜ spot r (now (out .exit)) ≡ lay (spot at (now (out .entry))) (lackText e) ⌝ }
 {
-    if e.number() == 7 {
+    if e.number() == PsbtError::BadValue.number() {
         return put(
             out,
             at,
@@ -137,7 +137,7 @@ fn put_tx(out: &mut [u8], at: usize, x: UnsignedTx) -> usize
             let to = put_lack(out, to, e);
             put(out, to, b"\n")
         }
-        UnsignedTx::Written { len, state: _ } => {
+        UnsignedTx::Written { len, .. } => {
             let to = put(out, at, b"transaction of ");
             let to = put_decimal(out, to, len as u64);
             put(out, to, b" bytes\n")

@@ -1,6 +1,6 @@
 -- Laws of finding a key in the pairs of a map, and of what is asked of the value found.
 use mathlib.Core.Path.{_≡_, refl, sym, _∙_, ap}
-use mathlib.Core.Bool.{Bool, true, false, _&&_}
+use mathlib.Core.Bool.{Bool, true, false, not, _&&_}
 use mathlib.Core.List.{List, [], _∷_}
 use Prim.Native.Nat.{ℕ, _+_, _-_, _%_, _≤_, _<_}
 use native.Mathlib.Numerals.{add-one}
@@ -39,10 +39,6 @@ use Rattle.lookup.specs.Finds.{lengthOf, Short, Lies}
 use Rattle.lookup.specs.declared.Wanted.{Wanted}
 use Rattle.lookup.specs.declared.Wanted.the-variants as W
 
--- an order, by the case that it is
-pub same-by : (o x : Order) (b : Bool) → o ≡ x → b ≡ isSame x → b ≡ isSame o
-same-by o x b e h = h ∙ sym (ap isSame e)
-
 -- a key, by its type and its data
 other-type : (t x : ℕ) (d k : List ℕ) → (x ≡ t → ⊥) → same (keyOf t d) (x ∷ k) ≡ false
 unfolding same keyOf order isSame
@@ -55,16 +51,19 @@ unfolding same keyOf order
 own-type t x d k h = rw (le-ltb t x (omega arith), le-ltb x t (omega arith))
 
 module _ (t : ℕ) (d : List ℕ) where
-  pub key-length : (k g : List ℕ) → k ≡ g → (length k ≡ length d + 1 → ⊥) → false ≡ same (keyOf t d) g
+  pub key-length : (k g : List ℕ) → k ≡ g → (length k ≡ length d + 1 → ⊥) → eqb (length k) (length d + 1) ≡ same (keyOf t d) g
   unfolding keyOf
   key-length k g is h =
-      sym (no-by (same (keyOf t d) g) (λ q. let e : length (t ∷ d) ≡ length g = ap length (same-is (keyOf t d) g q) in h (ap length is ∙ sym e ∙ sym (add-one (length d)))))
+      ne-eqb (length k) (length d + 1) h
+      ∙ sym (no-by (same (keyOf t d) g) (λ q. let e : length (t ∷ d) ≡ length g = ap length (same-is (keyOf t d) g q) in
+      h (ap length is ∙ sym e ∙ sym (add-one (length d)))))
 
-  pub key-typed : (k g : List ℕ) → k ≡ g → length k ≡ length d + 1 → (getD k 0 0 ≡ t → ⊥) → false ≡ same (keyOf t d) g
+  pub key-typed : (k g : List ℕ) → k ≡ g → length k ≡ length d + 1 → (getD k 0 0 ≡ t → ⊥) → eqb (getD k 0 0) t ≡ same (keyOf t d) g
   key-typed [] g is some h = absurd (omega arith)
-  key-typed (x ∷ k) g is some h = sym (other-type t x d k h) ∙ ap (same (keyOf t d)) is
+  key-typed (x ∷ k) g is some h = ne-eqb x t h ∙ sym (other-type t x d k h) ∙ ap (same (keyOf t d)) is
 
-  pub key-same : (k g : List ℕ) → k ≡ g → length k ≡ length d + 1 → getD k 0 0 ≡ t → (r : Bool) (o : Order) → r ≡ isSame o → o ≡ order d (take (length k - 1) (drop 1 k))
+  pub key-same : (k g : List ℕ) → k ≡ g → length k ≡ length d + 1 → getD k 0 0 ≡ t → (r : Bool) (o : Order) → r ≡ isSame o
+      → o ≡ order d (take (length k - 1) (drop 1 k))
       → r ≡ same (keyOf t d) g
   unfolding same
   key-same [] g is some h r o er eo = absurd (omega arith)
@@ -110,7 +109,7 @@ module _ (w : Wanted) (n : ℕ) where
   one-length k e = rw e
 
   module _ (e : w ≡ W.KeyList) where
-    pub empty-list : n ≡ 0 → false ≡ lengthFits (lengthOf w) n
+    pub empty-list : n ≡ 0 → not (eqb n 0) ≡ lengthFits (lengthOf w) n
     unfolding lengthOf lengthFits
     empty-list h = rw (e, eq-eqb n 0 h)
 
@@ -158,7 +157,8 @@ module _ (ok : Bool) (l : Length) (f key P : List ℕ) (fit : Fit) where
 
 pub ruleset askings = (asked-refused, asked-bad, asked-place)
 
-pub get-is : (f d P : List ℕ) (t : ℕ) (fit : Fit) (h : Held) (r : Looked) → r ≡ asked true (lengthOf W.AnyLength) f (keyOf t d) (heldOf P fit) → heldOf P fit ≡ h
+pub get-is : (f d P : List ℕ) (t : ℕ) (fit : Fit) (h : Held) (r : Looked) → r ≡ asked true (lengthOf W.AnyLength) f (keyOf t d) (heldOf P fit)
+    → heldOf P fit ≡ h
     → toldLooked r ≡ toldLooked (look f t d h)
 unfolding look lengthOf
 get-is f d P t fit h r e q = ap toldLooked (e ∙ ap (asked true anyLength f (keyOf t d)) q)
@@ -204,7 +204,8 @@ unfolding fit place inFile
 place-in f key last [] h = record { inside = λ s n q. let z : _≡_ {A = ℕ} 0 1 = cc in absurd (omega arith) }
 place-in f key last (e ∷ es) h =
     let a = and-left (inFile f e && below last (keyIn f e)) (fit f (keyIn f e) es) h in
-    let v = and-left (leb (e .value + e .vlen) (length f)) (ltb 0 (e .klen)) (and-right (leb (e .key + e .klen) (length f)) _ (and-left (inFile f e) (below last (keyIn f e)) a)) in
+    let v = and-left (leb (e .value + e .vlen) (length f)) (ltb 0 (e .klen))
+    (and-right (leb (e .key + e .klen) (length f)) _ (and-left (inFile f e) (below last (keyIn f e)) a)) in
     pick-by (Lies f) (same key (keyIn f e)) _ _
     (λ q. record { inside = λ s n w. let x : e .value ≡ s = cc in let y : e .vlen ≡ n = cc in omega (arith, leb-true (e .value + e .vlen) (length f) v) })
     (λ q. place-in f key (keyIn f e) es (and-right (inFile f e && below last (keyIn f e)) (fit f (keyIn f e) es) h))

@@ -35,7 +35,8 @@ use Rattle.fitness.proofs.Walks.{run-none, run-one, next-fits}
 use Rattle.lookup.specs.Lists.{oneIf, counted, isBefore, isListed}
 
 -- the tests on one key
-pub before-is : (f : List ℕ) (t : ℕ) (e : PairEntry) (r : Bool) (o : Order) (k : List ℕ) → r ≡ isBelow o → o ≡ order k (t ∷ []) → k ≡ keyIn f e → r ≡ isBefore f t e
+pub before-is : (f : List ℕ) (t : ℕ) (e : PairEntry) (r : Bool) (o : Order) (k : List ℕ) → r ≡ isBelow o → o ≡ order k (t ∷ []) → k ≡ keyIn f e
+    → r ≡ isBefore f t e
 unfolding isBefore below keyOf
 before-is f t e r o k er eo ek = er ∙ ap isBelow (eo ∙ ap (λ (x : List ℕ). order x (t ∷ [])) ek)
 
@@ -124,7 +125,8 @@ module _ (f P : List ℕ) (t : ℕ) (fit : Fit) where
   unfolding heldOf
   list-there m q r e = e ∙ sym (rw q)
 
-pub list-is : (f P : List ℕ) (t : ℕ) (fit : Fit) (h : Held) (r : Listing) → r ≡ list f t (heldOf P fit) → heldOf P fit ≡ h → toldListing r ≡ toldListing (list f t h)
+pub list-is : (f P : List ℕ) (t : ℕ) (fit : Fit) (h : Held) (r : Listing) → r ≡ list f t (heldOf P fit) → heldOf P fit ≡ h
+    → toldListing r ≡ toldListing (list f t h)
 list-is f P t fit h r e q = ap toldListing (e ∙ ap (list f t) q)
 
 pub ruleset listings = (list-refused, list-there)
@@ -168,7 +170,8 @@ module _ (P : List ℕ) (fit : Fit) (i : ℕ) where
       pub nth-there : (e : PairEntry) → e ≡ pairAt P (m .first + i) → K.Is e ≡ nth i (heldOf P fit)
       unfolding nth heldOf entriesOf run pairAt
       nth-there e is =
-          let g : getD (entriesOf P m) i noPair ≡ e = getD-take (m .count) (drop (m .first) (pairEntries P)) i noPair h ∙ getD-drop (m .first) (pairEntries P) i noPair ∙ sym is in
+          let g : getD (entriesOf P m) i noPair ≡ e =
+          getD-take (m .count) (drop (m .first) (pairEntries P)) i noPair h ∙ getD-drop (m .first) (pairEntries P) i noPair ∙ sym is in
           rw q (sym (nth-near i (entriesOf P m) (omega (arith, long)) ∙ ap K.Is g))
 
 pub nth-is : (P : List ℕ) (fit : Fit) (i : ℕ) (h : Held) (r : Nth) → r ≡ nth i (heldOf P fit) → heldOf P fit ≡ h → toldNth r ≡ toldNth (nth i h)

@@ -17,9 +17,10 @@ unfoldable pub counted : (PairEntry → Bool) → List PairEntry → ℕ
 counted t [] = 0
 counted t (e ∷ es) = oneIf (t e) + counted t es
 
--- an entry's key stands before the bare key of a type, or has the type
+-- an entry's key stands before the bare key of a type
 unfoldable pub isBefore : List ℕ → ℕ → PairEntry → Bool
 isBefore f t e = below (keyIn f e) (keyOf t [])
 
+-- an entry's key has the type
 unfoldable pub isListed : List ℕ → ℕ → PairEntry → Bool
 isListed f t e = eqb (typeOf (keyIn f e)) t

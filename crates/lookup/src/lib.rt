@@ -2,7 +2,6 @@
 use fitness::Fit;
 use fitness::bytes_at;
 use fitness::fit_map;
-use fitness::is_below;
 use fitness::key_in;
 use fitness::value_in;
 use format::Listing;
@@ -10,13 +9,13 @@ use format::Looked;
 use format::MapEntry;
 use format::Nth;
 use format::Numbered;
-use format::Order;
+use format::PUBKEY_LEN;
 use format::PairEntry;
 use format::Psbt;
 use format::PsbtError;
 ghost use mathlib.Core.Path.{_≡_};
 ghost use Prim.Native.Nat.{_+_, _≤_};
-ghost use Rattle.format.specs.Keys.{typeOf, keyOf, isSame, same};
+ghost use Rattle.format.specs.Keys.{typeOf, keyOf, same};
 ghost use Rattle.format.specs.Entries.{keyIn};
 ghost use Rattle.format.specs.Tables.{held, holds};
 ghost use Rattle.format.specs.Lookups.{place, lengthFits, ofLength, asked, look, part, numberAt, list, nth, keyPart, valuePart};
@@ -26,22 +25,11 @@ ghost use Rattle.fitness.specs.Fits.{entriesOf, heldOf, Within};
 ghost use Rattle.lookup.specs.Finds.{lengthOf, Short};
 ghost use Rattle.lookup.specs.Lists.{oneIf, isBefore, isListed};
 
-// Which lengths of a value are right: any, one of so many bytes, a list of 33-byte keys that is not empty.
+// Which lengths of a value are right: any, one of so many bytes, a list of public keys that is not empty.
 pub enum Wanted {
     AnyLength,
     Exactly(usize),
     KeyList,
-}
-
-// An order is that of equal keys.
-fn is_same(o: Order) -> bool
-    ensures { λ r. ⌜ r ≡ isSame o ⌝ }
-{
-    match o {
-        Order::Below => false,
-        Order::Same => true,
-        Order::Above => false,
-    }
 }
 
 // An entry's key is the asked one.
@@ -49,13 +37,8 @@ fn is_key(file: &[u8], e: PairEntry, key_type: u8, key_data: &[u8]) -> bool
     ensures { λ r. ⌜ r ≡ same (keyOf «key_type» (now («key_data» .entry))) (keyIn (now (file .entry)) e) ⌝ }
 {
     let key = key_in(file, e);
-    if key.len() != key_data.len() + 1 {
-        return false;
-    }
-    if key[0] != key_type {
-        return false;
-    }
-    is_same(keys::compare(key_data, &key[1..]))
+    key.len() == key_data.len() + 1
+        && (key[0] == key_type && keys::is_same(keys::compare(key_data, &key[1..])))
 }
 
 // Where the value of the asked key stands.
@@ -86,7 +69,7 @@ fn length_fits(wanted: Wanted, n: usize) -> bool
     match wanted {
         Wanted::AnyLength => true,
         Wanted::Exactly(w) => n == w,
-        Wanted::KeyList => { if n == 0 { false } else { n % 33 == 0 } }
+        Wanted::KeyList => n != 0 && n % PUBKEY_LEN == 0,
     }
 }
 
@@ -142,7 +125,8 @@ pub fn get(
     key_type: u8,
     key_data: &[u8],
 ) -> Looked
-    ensures { λ r. ⌜ toldLooked r ≡ toldLooked (look (now (file .entry)) «key_type» (now («key_data» .entry)) (held (now (file .entry)) (now (pairs .entry)) (now (maps .entry)) psbt m)) ⌝ }
+    ensures { λ r. ⌜ toldLooked r ≡ toldLooked (look (now (file .entry)) «key_type» (now («key_data» .entry))
+        (held (now (file .entry)) (now (pairs .entry)) (now (maps .entry)) psbt m)) ⌝ }
 {
     let fit = fit_map(file, pairs, maps, psbt, m);
     asked(
@@ -177,7 +161,8 @@ pub fn get_part<'a>(
     key_type: u8,
     key_data: &[u8],
 ) -> &'a [u8]
-    ensures { λ r. ⌜ now r ≡ part (now (file .entry)) (look (now (file .entry)) «key_type» (now («key_data» .entry)) (held (now (file .entry)) (now (pairs .entry)) (now (maps .entry)) psbt m)) ⌝ }
+    ensures { λ r. ⌜ now r ≡ part (now (file .entry)) (look (now (file .entry)) «key_type» (now («key_data» .entry))
+        (held (now (file .entry)) (now (pairs .entry)) (now (maps .entry)) psbt m)) ⌝ }
 {
     let looked = get(file, pairs, maps, psbt, m, key_type, key_data);
     part_of(file, looked)
@@ -216,7 +201,7 @@ fn is_before(file: &[u8], e: PairEntry, key_type: u8) -> bool
     ensures { λ r. ⌜ r ≡ isBefore (now (file .entry)) «key_type» e ⌝ }
 {
     let bare = [key_type];
-    is_below(keys::compare(key_in(file, e), &bare))
+    keys::is_below(keys::compare(key_in(file, e), &bare))
 }
 
 // An entry's key has a type.
@@ -258,7 +243,8 @@ pub fn list_in(file: &[u8], pairs: &[u32], fit: Fit, key_type: u8) -> Listing
 
 // The listing of a type in map number `m`.
 pub fn list(file: &[u8], pairs: &[u32], maps: &[u32], psbt: Psbt, m: u64, key_type: u8) -> Listing
-    ensures { λ r. ⌜ toldListing r ≡ toldListing (list (now (file .entry)) «key_type» (held (now (file .entry)) (now (pairs .entry)) (now (maps .entry)) psbt m)) ⌝ }
+    ensures { λ r. ⌜ toldListing r ≡ toldListing (list (now (file .entry)) «key_type»
+        (held (now (file .entry)) (now (pairs .entry)) (now (maps .entry)) psbt m)) ⌝ }
 {
     let fit = fit_map(file, pairs, maps, psbt, m);
     list_in(file, pairs, fit, key_type)
@@ -281,6 +267,7 @@ pub fn nth_in(pairs: &[u32], fit: Fit, i: usize) -> Nth
     }
 }
 
+// Pair number `i` of map number `m`.
 pub fn nth(file: &[u8], pairs: &[u32], maps: &[u32], psbt: Psbt, m: u64, i: usize) -> Nth
     ensures { λ r. ⌜ toldNth r ≡ toldNth (nth i (held (now (file .entry)) (now (pairs .entry)) (now (maps .entry)) psbt m)) ⌝ }
 {
@@ -288,7 +275,7 @@ pub fn nth(file: &[u8], pairs: &[u32], maps: &[u32], psbt: Psbt, m: u64, i: usiz
     nth_in(pairs, fit, i)
 }
 
-// Its key and its value, as the parts of the file themselves: empty for a refusal.
+// Its key, as the part of the file itself: empty for a refusal.
 pub fn key_part(file: &[u8], pair: Nth) -> &[u8]
     ensures { λ r. ⌜ now r ≡ keyPart (now (file .entry)) pair ⌝ }
 {
@@ -298,6 +285,7 @@ pub fn key_part(file: &[u8], pair: Nth) -> &[u8]
     }
 }
 
+// Its value, in the same way.
 pub fn value_part(file: &[u8], pair: Nth) -> &[u8]
     ensures { λ r. ⌜ now r ≡ valuePart (now (file .entry)) pair ⌝ }
 {
@@ -307,6 +295,7 @@ pub fn value_part(file: &[u8], pair: Nth) -> &[u8]
     }
 }
 
+// The key of pair number `i` of map number `m`.
 pub fn nth_key<'a>(
     file: &'a [u8],
     pairs: &[u32],
@@ -321,6 +310,7 @@ pub fn nth_key<'a>(
     key_part(file, pair)
 }
 
+// The value of pair number `i` of map number `m`.
 pub fn nth_value<'a>(
     file: &'a [u8],
     pairs: &[u32],

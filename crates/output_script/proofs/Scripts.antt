@@ -36,10 +36,10 @@ use Rattle.fitness.specs.declared.Fit.the-variants as X
 use Rattle.fitness.proofs.Maps.{output-held}
 use Rattle.scripts.specs.Tables.{entryAt, filled, fitsBy}
 use Rattle.scripts.proofs.Tables.{fits-is}
-use Rattle.all_maps.specs.Places.{foundAt, fieldAt, foundIn}
-use Rattle.all_maps.specs.declared.FoundAt.{FoundAt}
-use Rattle.all_maps.specs.declared.FoundAt.the-variants as F
-use Rattle.all_maps.proofs.Fields.{found-shows}
+use Rattle.all_maps_fit.specs.Places.{foundAt, fieldAt, foundIn}
+use Rattle.all_maps_fit.specs.declared.FoundAt.{FoundAt}
+use Rattle.all_maps_fit.specs.declared.FoundAt.the-variants as F
+use Rattle.all_maps_fit.proofs.Fields.{found-shows}
 use Rattle.output_script.specs.Scripts.{inFile, inTable, standing}
 
 -- an entry with a script stands in its table
@@ -123,7 +123,8 @@ joined-other false b x y z = refl
 
 -- an output by where its script 04 was found
 module _ (f P : List ℕ) (m : MapEntry) (x : FoundAt) (ex : x ≡ fieldAt f P 0x04 m) (t : State) (T : List ℕ) (i : ℕ) where
-  table-is : tableFits t (outOf (map (shown f) (entriesOf P m)) ∷ []) (drop (i * scriptEntry) T) ≡ pick (t .set) (fitsBy (present (foundIn f x)) (entryAt T i)) true
+  table-is : tableFits t (outOf (map (shown f) (entriesOf P m)) ∷ []) (drop (i * scriptEntry) T)
+      ≡ pick (t .set) (fitsBy (present (foundIn f x)) (entryAt T i)) true
   unfolding tableFits scriptsFit outOf entryAt
   table-is =
       ap (λ (b : Bool). pick (t .set) b true)

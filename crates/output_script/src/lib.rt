@@ -1,5 +1,5 @@
 // An output's script: 04 in the file, else the one that the signer set.
-use all_maps::FoundAt;
+use all_maps_fit::FoundAt;
 use fitness::Fit;
 use format::Looked;
 use format::MapEntry;
@@ -40,7 +40,7 @@ fn in_table(state: State, scripts: &[u8], i: u64) -> OutputScript
         if scripts::entry_fits(false, scripts::entry_at(scripts, i)) {
             OutputScript::InTable {
                 start: i as usize * scripts::ENTRY + 1,
-                len: 34,
+                len: scripts::SCRIPT_LEN,
             }
         } else {
             OutputScript::Refused(PsbtError::BadIndex)
@@ -62,7 +62,7 @@ fn script_in(
     requires { ⌜ m .first + m .count ≤ pairCount (now pairs) ⌝ }
     ensures { λ r. ⌜ r ≡ outputScript (now (file .entry)) state (now (scripts .entry)) i (holds (entriesOf (now (pairs .entry)) m)) ⌝ }
 {
-    match all_maps::found_field(file, pairs, m, PSBT_OUT_SCRIPT) {
+    match all_maps_fit::found_field(file, pairs, m, PSBT_OUT_SCRIPT) {
         FoundAt::Missing => in_table(state, scripts, i),
         FoundAt::At { start, len } => in_file(state, scripts, i, start, len),
     }
@@ -78,7 +78,8 @@ pub fn output_script(
     scripts: &[u8],
     i: u64,
 ) -> OutputScript
-    ensures { λ r. ⌜ toldScript r ≡ toldScript (outputScript (now (file .entry)) state (now (scripts .entry)) i (heldOutput (now (file .entry)) (now (pairs .entry)) (now (maps .entry)) psbt i)) ⌝ }
+    ensures { λ r. ⌜ toldScript r ≡ toldScript (outputScript (now (file .entry)) state (now (scripts .entry)) i
+        (heldOutput (now (file .entry)) (now (pairs .entry)) (now (maps .entry)) psbt i)) ⌝ }
 {
     match fitness::fit_output(file, pairs, maps, psbt, i) {
         Fit::Refused(e) => OutputScript::Refused(e),
@@ -108,7 +109,8 @@ pub fn output_script_part<'a>(
     scripts: &'a [u8],
     i: u64,
 ) -> &'a [u8]
-    ensures { λ r. ⌜ now r ≡ scriptPart (now (file .entry)) (now (scripts .entry)) (outputScript (now (file .entry)) state (now (scripts .entry)) i (heldOutput (now (file .entry)) (now (pairs .entry)) (now (maps .entry)) psbt i)) ⌝ }
+    ensures { λ r. ⌜ now r ≡ scriptPart (now (file .entry)) (now (scripts .entry)) (outputScript (now (file .entry)) state (now (scripts .entry)) i
+        (heldOutput (now (file .entry)) (now (pairs .entry)) (now (maps .entry)) psbt i)) ⌝ }
 {
     let at = output_script(file, pairs, maps, psbt, state, scripts, i);
     script_part(file, scripts, at)

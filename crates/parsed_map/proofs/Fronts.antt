@@ -131,7 +131,8 @@ module _ (k : ℕ) (s : List ℕ) (a l : ℕ) (b : Cursor) (f : b ≡ cursor (a 
   unfolding valueTaken
   value-bad e q = value-by (P.Bad e) q
 
-  module _ (c n : ℕ) (d : Cursor) (g : o ≡ P.Part c n d) (i : KeyIn (length s) a l) (y : Ruled) (is : y ≡ ruleBy k (getD s a 0) (l - 1) n (take (d .pos - c) (drop c s))) where
+  module _ (c n : ℕ) (d : Cursor) (g : o ≡ P.Part c n d)
+      (i : KeyIn (length s) a l) (y : Ruled) (is : y ≡ ruleBy k (getD s a 0) (l - 1) n (take (d .pos - c) (drop c s))) where
     value-ruled : (z : Ruled) → y ≡ z → ruledAt a l c n z ≡ valueOf k s a l
     unfolding valueTaken
     value-ruled z e =

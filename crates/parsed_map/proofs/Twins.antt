@@ -58,4 +58,5 @@ twin k last s = by (size s)
         pick-ap (λ (h : Head). shown s (itemAt k last s h)) (eqb n 0) _ _
         ∙ ap (pick (eqb n 0) (R.over (take u s) (drop u s)))
         (pick-ap (λ (h : Head). shown s (itemAt k last s h)) (leb n (length (drop u s))) _ _
-        ∙ rw (drop-drop n u s) (ap (λ (x : R.Item). pick (leb n (length (drop u s))) x (R.stop UnexpectedEof)) (risen-twin k s u n (order last (take n (drop u s))))))
+        ∙ rw (drop-drop n u s)
+        (ap (λ (x : R.Item). pick (leb n (length (drop u s))) x (R.stop UnexpectedEof)) (risen-twin k s u n (order last (take n (drop u s))))))

@@ -24,6 +24,7 @@ unfoldable pub headBy : List ℕ → Size → Head
 headBy s (Bad e) = H.Stop e
 headBy s (Read n u) = pick (eqb n 0) (H.Over u) (pick (leb n (length (drop u s))) (H.Key u n) (H.Stop UnexpectedEof))
 
+-- the key in front of s
 unfoldable pub headOf : List ℕ → Head
 headOf s = headBy s (size s)
 
@@ -51,6 +52,7 @@ valueBy k s a l (Read n u) =
     (ruledAt a l (a + l + u) n (rule k (take l (drop a s)) (take n (drop (a + l + u) s))))
     (I.Stop UnexpectedEof)
 
+-- behind a key of l bytes at a
 unfoldable pub valueOf : ℕ → List ℕ → ℕ → ℕ → Item
 valueOf k s a l = valueBy k s a l (size (drop (a + l) s))
 

@@ -30,14 +30,14 @@ use Rattle.parsed_map.proofs.Items.{over-in, over-length, one-in, width-is, ent
 use Rattle.parsed_map.proofs.Twins.{twin}
 use Rattle.entries.specs.Words.{PairFits, MapFits}
 use Rattle.format.proofs.Entries.{length-putPair, length-putMap}
-use Rattle.walk.specs.Walks.{note, atFirst, after}
+use Rattle.known_so_far.specs.SoFar.{note, atFirst, after}
 use Rattle.psbt.specs.Leans.{begins, cutLean, left, goOn, walkTurn, walk, mapsRead}
 use Rattle.psbt.specs.Steps.{Places, InLimit, stepBy, stepAt}
-use Rattle.walk.specs.declared.Walk.{Walk}
+use Rattle.known_so_far.specs.declared.Known.{Known}
 use Rattle.psbt.specs.declared.Step.{Step}
 use Rattle.psbt.specs.declared.Step.the-variants.{Stop, Over, One}
-use Rattle.walk.specs.declared.Next.{Next}
-use Rattle.walk.specs.declared.Next.the-variants as N
+use Rattle.known_so_far.specs.declared.Next.{Next}
+use Rattle.known_so_far.specs.declared.Next.the-variants as N
 use Rattle.psbt.proofs.Leans.{walk-turn}
 use Rattle.psbt.proofs.Steps.{limit-fits}
 
@@ -46,26 +46,29 @@ abbrev pub between : List ℕ → ℕ → ℕ → List ℕ
 between F la le = take (le - la) (drop la F)
 
 -- what is left to give, between two maps and inside one that began at pair i
-abbrev pub atMap : List ℕ → List ℕ → List ℕ → Walk → ℕ → ℕ → ℕ → ParseOut
+abbrev pub atMap : List ℕ → List ℕ → List ℕ → Known → ℕ → ℕ → ℕ → ParseOut
 atMap F P M w at p m = cutLean at p m p P M (begins (walk w [] (drop at F)))
 
-abbrev pub inMap : List ℕ → List ℕ → List ℕ → ℕ → Walk → ℕ → ℕ → ℕ → ℕ → ℕ → ParseOut
+abbrev pub inMap : List ℕ → List ℕ → List ℕ → ℕ → Known → ℕ → ℕ → ℕ → ℕ → ℕ → ParseOut
 inMap F P M m w at p la le i = cutLean at p m i P M (walk w (between F la le) (drop at F))
 
 -- what is carried on behind the pair of an entry
-abbrev pub notedAt : List ℕ → Walk → PairEntry → Walk
+abbrev pub notedAt : List ℕ → Known → PairEntry → Known
 notedAt F w e = note (between F (e .key) (e .key + e .klen)) (between F (e .value) (e .value + e .vlen)) w
 
 -- by a step
-unfoldable pub stepCut : List ℕ → List ℕ → List ℕ → ℕ → Walk → ℕ → ℕ → Step → ParseOut
+unfoldable pub stepCut : List ℕ → List ℕ → List ℕ → ℕ → Known → ℕ → ℕ → Step → ParseOut
 stepCut F P M m w p i (Stop e) = out (A.Refused e p m) P M
-stepCut F P M m w p i (Over to) = cutLean to p (m + 1) p P (putMap M m (record { first = i; count = p - i })) (goOn walk (drop to F) (after w (left (drop to F))))
+stepCut F P M m w p i (Over to) =
+    cutLean to p (m + 1) p P (putMap M m (record { first = i; count = p - i })) (goOn walk (drop to F) (after w (left (drop to F))))
 stepCut F P M m w p i (One e) =
-    pick (hasRoom pairWords p P) (inMap F (putPair P p e) M m (notedAt F w e) (e .value + e .vlen) (p + 1) (e .key) (e .key + e .klen) i) (out (A.Refused PairsFull p m) P M)
+    pick (hasRoom pairWords p P) (inMap F (putPair P p e) M m (notedAt F w e) (e .value + e .vlen) (p + 1) (e .key) (e .key + e .klen) i)
+    (out (A.Refused PairsFull p m) P M)
 
 -- a step is what the walk does
-module _ (F P M : List ℕ) (m : ℕ) (w : Walk) (at p i : ℕ) (last : List ℕ) where
-  by-item : (z : Item) → z ≡ itemOf (w .kind) last (drop at F) → cutLean at p m i P M (walkTurn walk w (shown (drop at F) z)) ≡ stepCut F P M m w p i (stepBy at z)
+module _ (F P M : List ℕ) (m : ℕ) (w : Known) (at p i : ℕ) (last : List ℕ) where
+  by-item : (z : Item) → z ≡ itemOf (w .kind) last (drop at F)
+      → cutLean at p m i P M (walkTurn walk w (shown (drop at F) z)) ≡ stepCut F P M m w p i (stepBy at z)
   unfolding walkTurn shown stepBy stepCut cutLean
   by-item (I.Stop e) h = refl
   by-item (I.Over u) h =
@@ -75,7 +78,16 @@ module _ (F P M : List ℕ) (m : ℕ) (w : Walk) (at p i : ℕ) (last : List ℕ
       let n = one-in (w .kind) last (drop at F) (I.One a l b v) h a l b v refl in
       let s : at + (b + v) ≡ at + b + v = omega arith in
       ap (λ (x : ParseOut). pick (hasRoom pairWords p P) x (out (A.Refused PairsFull p m) P M))
-      (rw (width-is (drop at F) a l b v n, entry-is (drop at F) a l b v n at, drop-drop (b + v) at F, s, add-sub-cancel-left (at + a) l, add-sub-cancel-left (at + b) v, ← drop-drop a at F, ← drop-drop b at F) (unfold pairAt in refl))
+      (rw (
+        width-is (drop at F) a l b v n,
+        entry-is (drop at F) a l b v n at,
+        drop-drop (b + v) at F,
+        s,
+        add-sub-cancel-left (at + a) l,
+        add-sub-cancel-left (at + b) v,
+        ← drop-drop a at F,
+        ← drop-drop b at F,
+      ) (unfold pairAt in refl))
 
   pub turned : cutLean at p m i P M (walk w last (drop at F)) ≡ stepCut F P M m w p i (stepAt (drop at F) last at (w .kind))
   unfolding stepAt
@@ -83,7 +95,7 @@ module _ (F P M : List ℕ) (m : ℕ) (w : Walk) (at p i : ℕ) (last : List ℕ
       ap (cutLean at p m i P M) (walk-turn w last (drop at F) ∙ ap (walkTurn walk w) (sym (twin (w .kind) last (drop at F))))
       ∙ by-item (itemOf (w .kind) last (drop at F)) refl
 
-pub record AtMaps (F P₀ M₀ P M : List ℕ) (w : Walk) (at p m : ℕ) : Type 0 where
+pub record AtMaps (F P₀ M₀ P M : List ℕ) (w : Known) (at p m : ℕ) : Type 0 where
   pub at≤ : at ≤ length F
   pub p≤ : p ≤ at
   pub m2 : m * 2 ≤ length M
@@ -91,7 +103,7 @@ pub record AtMaps (F P₀ M₀ P M : List ℕ) (w : Walk) (at p m : ℕ) : Type 
   pub M= : length M ≡ length M₀
   pub is : atMap F P M w at p m ≡ mapsRead F P₀ M₀
 
-pub record InMap (F P₁ M : List ℕ) (w₁ : Walk) (at₁ p₁ m i la₁ le₁ : ℕ) (P : List ℕ) (w : Walk) (at p la le : ℕ) : Type 0 where
+pub record InMap (F P₁ M : List ℕ) (w₁ : Known) (at₁ p₁ m i la₁ le₁ : ℕ) (P : List ℕ) (w : Known) (at p la le : ℕ) : Type 0 where
   pub at≤ : at ≤ length F
   pub la≤ : la ≤ le
   pub le≤ : le ≤ length F
@@ -101,7 +113,7 @@ pub record InMap (F P₁ M : List ℕ) (w₁ : Walk) (at₁ p₁ m i la₁ le₁
   pub P= : length P ≡ length P₁
   pub is : inMap F P M m w at p la le i ≡ inMap F P₁ M m w₁ at₁ p₁ la₁ le₁ i
 
-pub maps-first : (F P M : List ℕ) (w : Walk) → InLimit (length F) → w ≡ atFirst → AtMaps F P M P M w 5 0 0
+pub maps-first : (F P M : List ℕ) (w : Known) → InLimit (length F) → w ≡ atFirst → AtMaps F P M P M w 5 0 0
 unfolding mapsRead
 maps-first F P M w l e = record {
   at≤ = l .magic;
@@ -109,7 +121,7 @@ maps-first F P M w l e = record {
   m2 = omega arith;
   P= = refl;
   M= = refl;
-  is = ap (λ (x : Walk). atMap F P M x 5 0 0) e;
+  is = ap (λ (x : Known). atMap F P M x 5 0 0) e;
 }
 
 -- room that is tested
@@ -119,7 +131,7 @@ room-no b t e h = sym e ∙ not-true b h
 room-yes : (b t : Bool) → b ≡ t → not b ≡ false → t ≡ true
 room-yes b t e h = sym e ∙ not-false b h
 
-module _ (F P₀ M₀ P M : List ℕ) (w : Walk) (at p m : ℕ) (j : AtMaps F P₀ M₀ P M w at p m) where
+module _ (F P₀ M₀ P M : List ℕ) (w : Known) (at p m : ℕ) (j : AtMaps F P₀ M₀ P M w at p m) where
   pub loop-first : InMap F P M w at p m p at at P w at p at at
   loop-first = record { at≤ = j .at≤; la≤ = omega arith; le≤ = j .at≤; p≤ = j .p≤; i≤ = omega arith; at₁≤ = omega arith; P= = refl; is = refl }
 
@@ -176,7 +188,7 @@ rest-places F at l h =
     let e : length (take (length F - at) (drop at F)) ≡ length F - at = ap length (part-rest at F) ∙ length-drop at F in
     record { within = omega (arith, l .short) }
 
-module _ (F P₁ M : List ℕ) (w₁ : Walk) (at₁ p₁ m : ℕ) (P : List ℕ) (w : Walk) (at p la le : ℕ) (i : InMap F P₁ M w₁ at₁ p₁ m p₁ at₁ at₁ P w at p la le)
+module _ (F P₁ M : List ℕ) (w₁ : Known) (at₁ p₁ m : ℕ) (P : List ℕ) (w : Known) (at p la le : ℕ) (i : InMap F P₁ M w₁ at₁ p₁ m p₁ at₁ at₁ P w at p la le)
     (o : Step) (is : o ≡ stepAt (take (length F - at) (drop at F)) (take (le - la) (drop la F)) at (w .kind)) where
   here : (y : Step) → o ≡ y → inMap F P M m w at p la le p₁ ≡ stepCut F P M m w p p₁ y
   here y e =
@@ -185,7 +197,8 @@ module _ (F P₁ M : List ℕ) (w₁ : Walk) (at₁ p₁ m : ℕ) (P : List ℕ)
 
   in-file : (y : Step) → o ≡ y → StepIn F at y
   in-file y e =
-      subst (StepIn F at) (ap (λ (s : List ℕ). stepAt s (between F la le) at (w .kind)) (sym (part-rest at F)) ∙ sym is ∙ e) (step-in F at (w .kind) (between F la le) (i .at≤))
+      subst (StepIn F at) (ap (λ (s : List ℕ). stepAt s (between F la le) at (w .kind)) (sym (part-rest at F))
+      ∙ sym is ∙ e) (step-in F at (w .kind) (between F la le) (i .at≤))
 
   pub over-less : (to : ℕ) → o ≡ Over to → length F - to < length F - at₁
   over-less to e = omega (arith, in-file (Over to) e, i .at₁≤)
@@ -223,7 +236,7 @@ module _ (F P₁ M : List ℕ) (w₁ : Walk) (at₁ p₁ m : ℕ) (P : List ℕ)
     pub one-less : length F - (e .value + e .vlen) < length F - at
     one-less = omega (arith, bounds .value, bounds .moves)
 
-    pub one-again : (b : Bool) → b ≡ hasRoom pairWords p P → not b ≡ false → (P′ : List ℕ) → P′ ≡ putPair P p e → (v : Walk) → v ≡ notedAt F w e
+    pub one-again : (b : Bool) → b ≡ hasRoom pairWords p P → not b ≡ false → (P′ : List ℕ) → P′ ≡ putPair P p e → (v : Known) → v ≡ notedAt F w e
         → InMap F P₁ M w₁ at₁ p₁ m p₁ at₁ at₁ P′ v (e .value + e .vlen) (p + 1) (e .key) (e .key + e .klen)
     unfolding stepCut
     one-again b r n P′ q v x =
@@ -263,7 +276,8 @@ module _ (F P₁ M : List ℕ) (w₁ : Walk) (at₁ p₁ m : ℕ) (P : List ℕ)
     unfolding hasRoom
     map-more l = record { fits = omega (arith, leb-true (m * mapWords + mapWords) (length M) (room-yes b (hasRoom mapWords m M) t n)) }
 
-    module _ (to : ℕ) (q : o ≡ Over to) (M′ : List ℕ) (u : M′ ≡ putMap M m (record { first = p₁; count = p - p₁ })) (x : Next) (it : x ≡ after w (ltb to (length F))) where
+    module _ (to : ℕ) (q : o ≡ Over to) (M′ : List ℕ) (u : M′ ≡ putMap M m (record { first = p₁; count = p - p₁ }))
+        (x : Next) (it : x ≡ after w (ltb to (length F))) where
       behind : (y : Next) → x ≡ y → cutLean to p (m + 1) p P M′ (goOn walk (drop to F) y) ≡ mapsRead F P₀ M₀
       unfolding stepCut
       behind y e =
@@ -277,7 +291,7 @@ module _ (F P₁ M : List ℕ) (w₁ : Walk) (at₁ p₁ m : ℕ) (P : List ℕ)
       unfolding cutLean goOn
       exit-done s z = behind (N.Done s) z
 
-      pub maps-next : (v : Walk) → x ≡ N.Map v → AtMaps F P₀ M₀ P M′ v to p (m + 1)
+      pub maps-next : (v : Known) → x ≡ N.Map v → AtMaps F P₀ M₀ P M′ v to p (m + 1)
       unfolding goOn hasRoom
       maps-next v z =
           let long : length M′ ≡ length M = ap length u ∙ length-putMap M m (record { first = p₁; count = p - p₁ }) in

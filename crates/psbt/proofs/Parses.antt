@@ -22,11 +22,11 @@ use Rattle.format.specs.declared.Parsed.the-variants as A
 use Rattle.format.proofs.Tests.{no-by}
 use Rattle.format.proofs.Keys.{same-is}
 use Rattle.format.proofs.Told.{parse-out-one}
-use Rattle.laws.specs.Rooms.{pairs#, ended#, Roomy, answer, answerOf}
-use Rattle.laws.specs.Shown.{Accepts, viewBy}
-use Rattle.laws.proofs.Rooms.{room-answers}
-use Rattle.laws.proofs.Promised.{promised-accepts}
-use Rattle.laws.proofs.Shown.{accepted-shows}
+use Rattle.claims_reading.specs.Rooms.{pairs#, ended#, Roomy, answer, answerOf}
+use Rattle.claims_reading.specs.Shown.{Accepts, viewBy}
+use Rattle.claims_reading.proofs.Rooms.{room-answers}
+use Rattle.claims_reading.proofs.Promised.{promised-accepts}
+use Rattle.claims_reading.proofs.Shown.{accepted-shows}
 use Rattle.psbt.specs.Leans.{begins, lean, cutLean, mapsRead}
 use Rattle.psbt.specs.Steps.{InLimit}
 use Rattle.psbt.proofs.Leans.{cut-lean, maps-walked}
@@ -78,7 +78,8 @@ module _ (F P M : List ℕ) where
     pub maps-told : not b ≡ false → (r : Parsed) (P′ M′ : List ℕ) → out r P′ M′ ≡ mapsRead F P M → toldWith (toldParsed r) P′ M′ ≡ toldParse (parsed F P M)
     unfolding parsed events eventsOf mapsRead lean
     maps-told h r P′ M′ q =
-        tell r P′ M′ _ (q ∙ sym (rw (le-leb (length F) limit l, sym e ∙ not-false b h) (cut-lean 5 0 0 0 P M _ ∙ ap (λ x. cutLean 5 0 0 0 P M (begins x)) (maps-walked (drop 5 F)))))
+        tell r P′ M′ _ (q ∙ sym (rw (le-leb (length F) limit l, sym e ∙ not-false b h)
+        (cut-lean 5 0 0 0 P M _ ∙ ap (λ x. cutLean 5 0 0 0 P M (begins x)) (maps-walked (drop 5 F)))))
 
 pub ruleset parses = (too-long, no-magic, in-limit, maps-told)
 

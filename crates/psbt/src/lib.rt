@@ -10,13 +10,13 @@ use format::PairEntry;
 use format::Parsed;
 use format::PsbtError;
 use keys::compare;
+use known_so_far::Known;
+use known_so_far::Next;
+use known_so_far::after_map;
+use known_so_far::first_map;
+use known_so_far::note_pair;
 use parsed_map::Item;
 use parsed_map::next_item;
-use walk::Next;
-use walk::Walk;
-use walk::after_map;
-use walk::first_map;
-use walk::note_pair;
 ghost use mathlib.Core.Path.{_≡_};
 ghost use Rattle.format.specs.Keys.{same};
 ghost use Rattle.format.specs.Content.{magic};
@@ -67,7 +67,7 @@ fn read_maps(file: &[u8], pairs: &mut [u32], maps: &mut [u32]) -> Parsed
         pairs: 0,
         maps: 0,
     };
-    let mut w = first_map();
+    let mut known = first_map();
     let mut at: usize = 5;
     let mut p: usize = 0;
     let mut m: usize = 0;
@@ -84,7 +84,7 @@ fn read_maps(file: &[u8], pairs: &mut [u32], maps: &mut [u32]) -> Parsed
         let mut la: usize = at;
         let mut le: usize = at;
         loop {
-            let x = step_at(&file[at..], &file[la..le], at, w.kind);
+            let x = step_at(&file[at..], &file[la..le], at, known.kind);
             match x {
                 Step::Stop(e) => {
                     answer = Parsed::Refused {
@@ -113,7 +113,7 @@ fn read_maps(file: &[u8], pairs: &mut [u32], maps: &mut [u32]) -> Parsed
                     le = entry.key + entry.klen;
                     at = value + entry.vlen;
                     p = p + 1;
-                    w = note_pair(w, &file[la..le], &file[value..at]);
+                    known = note_pair(known, &file[la..le], &file[value..at]);
                 }
             }
         }
@@ -126,7 +126,7 @@ fn read_maps(file: &[u8], pairs: &mut [u32], maps: &mut [u32]) -> Parsed
             },
         );
         m = m + 1;
-        let t = after_map(w, at < file.len());
+        let t = after_map(known, at < file.len());
         match t {
             Next::Stop(e) => {
                 answer = Parsed::Refused {
@@ -145,7 +145,7 @@ fn read_maps(file: &[u8], pairs: &mut [u32], maps: &mut [u32]) -> Parsed
                 break 'maps;
             }
             Next::Map(v) => {
-                w = v;
+                known = v;
             }
         }
     }
@@ -169,7 +169,8 @@ fn has_magic(file: &[u8]) -> bool
 // Parses a file into a pair table and a map table. Each entry is told by the definitions; both tables keep everything
 // that is not an entry of a pair accepted or of a map ended.
 pub fn parse(file: &[u8], pairs: &mut [u32], maps: &mut [u32]) -> Parsed
-    ensures { λ r. ⌜ toldWith (toldParsed r) (now (pairs .exit)) (now (maps .exit)) ≡ toldParse (parsed (now (file .entry)) (now (pairs .entry)) (now (maps .entry))) ⌝ }
+    ensures { λ r. ⌜ toldWith (toldParsed r) (now (pairs .exit)) (now (maps .exit))
+        ≡ toldParse (parsed (now (file .entry)) (now (pairs .entry)) (now (maps .entry))) ⌝ }
 {
     if LIMIT < file.len() {
         return Parsed::Refused {

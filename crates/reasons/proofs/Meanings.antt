@@ -4,7 +4,11 @@ use mathlib.Core.List.{List}
 use Prim.Native.Nat.{ℕ}
 use Rattle.format.specs.Refusals.{numberOf}
 use Rattle.format.specs.declared.PsbtError.{PsbtError}
-use Rattle.format.specs.declared.PsbtError.the-variants.{InvalidMagic, UnexpectedEof, InvalidCompactSize, MapTerminatorMissing, DuplicateKey, UnsortedKeys, BadValue, MissingCounts, MissingOutputIndex, MissingRedeemScript, MissingWitnessScript, CountsTooLarge, NotAllowed, OutOfRange, UnknownOutputType, Unsupported, MissingOutputScript, InvalidSilentPayment, InvalidOutputScripts, InvalidSighashType, TooLong, PairsFull, MapsFull, BadIndex, NoRoom}
+use Rattle.format.specs.declared.PsbtError.the-variants.{InvalidMagic, UnexpectedEof, InvalidCompactSize, MapTerminatorMissing, DuplicateKey}
+use Rattle.format.specs.declared.PsbtError.the-variants.{UnsortedKeys, BadValue, MissingCounts, MissingOutputIndex, MissingRedeemScript}
+use Rattle.format.specs.declared.PsbtError.the-variants.{MissingWitnessScript, CountsTooLarge, NotAllowed, OutOfRange, UnknownOutputType}
+use Rattle.format.specs.declared.PsbtError.the-variants.{Unsupported, MissingOutputScript, InvalidSilentPayment, InvalidOutputScripts}
+use Rattle.format.specs.declared.PsbtError.the-variants.{InvalidSighashType, TooLong, PairsFull, MapsFull, BadIndex, NoRoom}
 use Rattle.text.specs.Spots.{Spot, lay}
 use Rattle.text.specs.Say.{newline, lines}
 use Rattle.text.specs.Spelled.{digit, decimalIn, decimal}
@@ -50,7 +54,8 @@ pub meaning-by : (s t : Spot) (e : PsbtError) (n : ℕ) (b : List ℕ) → n ≡
 meaning-by s t e n b q l h = h ∙ ap (lay s) (l ∙ ap (λ (m : ℕ). line m (lines meanings)) q ∙ in-lines e)
 
 -- a refusal's line, by its number
-pub refused-line : (s t₁ t₂ t₃ t₄ t₅ : Spot) (e : PsbtError) (n : ℕ) → n ≡ numberOf e → t₁ ≡ lay s sayRefused → t₂ ≡ lay t₁ (decimal n) → t₃ ≡ lay t₂ sayThat → t₄ ≡ lay t₃ (meaning e) → t₅ ≡ lay t₄ newline
+pub refused-line : (s t₁ t₂ t₃ t₄ t₅ : Spot) (e : PsbtError) (n : ℕ) → n ≡ numberOf e → t₁ ≡ lay s sayRefused → t₂ ≡ lay t₁ (decimal n) → t₃ ≡ lay t₂ sayThat
+    → t₄ ≡ lay t₃ (meaning e) → t₅ ≡ lay t₄ newline
     → t₅ ≡ lay s (refusedLine e)
 unfolding refusedLine
 refused-line s t₁ t₂ t₃ t₄ t₅ e n q a b c d f = chain5 s t₁ t₂ t₃ t₄ t₅ _ _ _ _ _ _ a (b ∙ ap (λ (m : ℕ). lay t₁ (decimal m)) q) c d f refl

@@ -1,6 +1,6 @@
 -- Laws of a text's lines: where one begins and where it ends.
 use mathlib.Core.Path.{_≡_, refl, sym, _∙_, ap, subst}
-use mathlib.Core.List.{List, [], _∷_, _++_, append-nil}
+use mathlib.Core.List.{List, [], _++_, append-nil}
 use Prim.Native.Nat.{ℕ, zero, suc, _+_, _-_, _≤_, _<_}
 use native.Mathlib.Omega.{arith}
 use native.Mathlib.Numerals.{add-one}
@@ -77,7 +77,11 @@ module _ (s : List ℕ) (i : ℕ) (a : Along s i) where
     pub along-more : (getD s i 0 ≡ 10 → ⊥) → Along s (i + 1)
     unfolding front
     along-more e =
-        record { in-text = omega arith; is = rw (add-one, take-suc s i 0 h) (append-snoc (take i s) (getD s i 0) _ ∙ (rw (drop-cons s i 0 h, ne-eqb (getD s i 0) 10 e) at (a .is))) }
+        record {
+          in-text = omega arith;
+          is = rw (add-one, take-suc s i 0 h)
+              (append-snoc (take i s) (getD s i 0) _ ∙ (rw (drop-cons s i 0 h, ne-eqb (getD s i 0) 10 e) at (a .is)));
+        }
 
 pub ruleset ends = (along-first, ends-text, ends-line, along-more)
 

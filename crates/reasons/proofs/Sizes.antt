@@ -22,7 +22,8 @@ row-most : (ts : List (List ℕ)) (i : ℕ) → length (getD ts i []) ≤ greate
 row-most [] i = omega arith
 row-most (t ∷ ts) zero = pick-by (λ (n : ℕ). length t ≤ n) (leb (length t) (greatest ts)) _ _ (λ h. leb-true (length t) (greatest ts) h) (λ h. omega arith)
 row-most (t ∷ ts) (suc i) =
-    pick-by (λ (n : ℕ). length (getD ts i []) ≤ n) (leb (length t) (greatest ts)) _ _ (λ h. row-most ts i) (λ h. omega (arith, row-most ts i, leb-false (length t) (greatest ts) h))
+    pick-by (λ (n : ℕ). length (getD ts i []) ≤ n) (leb (length t) (greatest ts)) _ _ (λ h. row-most ts i)
+    (λ h. omega (arith, row-most ts i, leb-false (length t) (greatest ts) h))
 
 pub meaning-most : (e : PsbtError) → length (meaning e) ≤ 42
 unfolding meaning decimal decimalIn digit

@@ -6,7 +6,7 @@ use Rattle.format.specs.Refusals.{numberOf}
 use Rattle.format.specs.declared.PsbtError.{PsbtError}
 use Rattle.text.specs.Say.{say, newline}
 use Rattle.text.specs.Spelled.{decimal}
-use Rattle.text.specs.Limits.{longest, mostPairs, mostMaps}
+use Rattle.rooms.specs.Limits.{longest, mostPairs, mostMaps}
 
 -- what refusals mean, in words, in the order of their numbers; none has the number 0
 abbrev pub meanings : List (List ℕ)

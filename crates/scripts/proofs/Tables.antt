@@ -1,6 +1,6 @@
 -- Laws of the script table's entries, one for each way through the functions that judge them.
 use mathlib.Core.Path.{_≡_, refl, sym, _∙_, ap}
-use mathlib.Core.Bool.{Bool, true, false}
+use mathlib.Core.Bool.{Bool, true, false, not}
 use mathlib.Core.List.{List, [], _∷_}
 use Prim.Native.Nat.{ℕ, _+_, _-_, _*_, _/_, _<_, _≤_}
 use native.Mathlib.Nat.{add-sub-cancel-left}
@@ -44,7 +44,9 @@ same-two a b h = by (eqb b 0x20) refl
   where
     by : (t : Bool) → eqb b 0x20 ≡ t → t ≡ same (a ∷ b ∷ []) (0x51 ∷ 0x20 ∷ [])
     by true q = let e : b ≡ 0x20 = eqb-true b 0x20 q in rw (h, e) (sym (same-self (0x51 ∷ 0x20 ∷ [])))
-    by false q = sym (no-by (same (a ∷ b ∷ []) (0x51 ∷ 0x20 ∷ [])) (λ g. let e = same-is (a ∷ b ∷ []) (0x51 ∷ 0x20 ∷ []) g in let f : b ≡ 0x20 = cc in eqb-false b 0x20 q f))
+    by false q =
+        sym (no-by (same (a ∷ b ∷ []) (0x51 ∷ 0x20 ∷ []))
+        (λ g. let e = same-is (a ∷ b ∷ []) (0x51 ∷ 0x20 ∷ []) g in let f : b ≡ 0x20 = cc in eqb-false b 0x20 q f))
 
 other-one : (a b : ℕ) → (a ≡ 0x51 → ⊥) → same (a ∷ b ∷ []) (0x51 ∷ 0x20 ∷ []) ≡ false
 other-one a b h = no-by (same (a ∷ b ∷ []) (0x51 ∷ 0x20 ∷ [])) (λ g. let e = same-is (a ∷ b ∷ []) (0x51 ∷ 0x20 ∷ []) g in let f : a ≡ 0x51 = cc in h f)
@@ -56,25 +58,25 @@ tap-is [] l h = absurd (omega arith)
 tap-is (a ∷ []) l h = absurd (omega arith)
 tap-is (a ∷ b ∷ s) l h = rw (eq-eqb (length (a ∷ b ∷ s)) 34 l) (same-two a b h)
 
-pub tap-other : (s : List ℕ) → length s ≡ 34 → (getD s 0 0 ≡ 0x51 → ⊥) → false ≡ taproot s
+pub tap-other : (s : List ℕ) → length s ≡ 34 → (getD s 0 0 ≡ 0x51 → ⊥) → eqb (getD s 0 0) 0x51 ≡ taproot s
 unfolding taproot
 tap-other [] l h = absurd (omega arith)
 tap-other (a ∷ []) l h = absurd (omega arith)
-tap-other (a ∷ b ∷ s) l h = rw (eq-eqb (length (a ∷ b ∷ s)) 34 l) (sym (other-one a b h))
+tap-other (a ∷ b ∷ s) l h = ne-eqb a 0x51 h ∙ rw (eq-eqb (length (a ∷ b ∷ s)) 34 l) (sym (other-one a b h))
 
-pub tap-length : (s : List ℕ) → (length s ≡ 34 → ⊥) → false ≡ taproot s
+pub tap-length : (s : List ℕ) → (length s ≡ 34 → ⊥) → eqb (length s) 34 ≡ taproot s
 unfolding taproot
 tap-length s l = rw (ne-eqb (length s) 34 l)
 
 pub ruleset taproots = (tap-is, tap-other, tap-length)
 
 -- an entry of zero bytes
-pub blank-by : (e : List ℕ) (o x : Order) (b : Bool) → o ≡ order e (replicate scriptEntry 0) → o ≡ x → b ≡ isSame x → b ≡ blank e
+pub blank-by : (e : List ℕ) (o : Order) (b : Bool) → o ≡ order e (replicate scriptEntry 0) → b ≡ isSame o → b ≡ blank e
 unfolding blank same
-blank-by e o x b h k q = q ∙ ap isSame (sym k ∙ h)
+blank-by e o b h q = q ∙ ap isSame h
 
 -- an entry with a script
-pub filled-none : (e : List ℕ) → length e ≡ 0 → false ≡ filled e
+pub filled-none : (e : List ℕ) → length e ≡ 0 → not (eqb (length e) 0) ≡ filled e
 unfolding filled
 filled-none [] h = refl
 filled-none (b ∷ s) h = absurd (omega arith)
@@ -86,7 +88,7 @@ filled-yes (b ∷ s) r n h q =
     let l : length (b ∷ s) - 1 ≡ length s = omega arith in
     q ∙ rw (l, take-all (length s) s (omega arith), eq-eqb b 1 h)
 
-pub filled-no : (e : List ℕ) → (length e ≡ 0 → ⊥) → (getD e 0 0 ≡ 1 → ⊥) → false ≡ filled e
+pub filled-no : (e : List ℕ) → (length e ≡ 0 → ⊥) → (getD e 0 0 ≡ 1 → ⊥) → eqb (getD e 0 0) 1 ≡ filled e
 unfolding filled
 filled-no [] n h = absurd (n refl)
 filled-no (b ∷ s) n h = rw (ne-eqb b 1 h)

@@ -6,7 +6,7 @@ use Prim.Native.Nat.{ℕ, _+_, _-_, _≤_, _<_}
 use native.Mathlib.Nat.{add-sub-cancel-left}
 use native.Mathlib.Omega.{arith}
 use borrow.Author.Tests.{lt-ltb, le-ltb, le-leb, lt-leb, leb-true, leb-false}
-use lib.Dec.{leb}
+use lib.Dec.{leb, ltb}
 use lib.ListN.{length, take, drop}
 use Rattle.format.specs.Scripts.{scriptIn, taproot, allowed}
 use Rattle.format.specs.declared.Assignment.{Assignment}
@@ -21,9 +21,9 @@ module _ (buffer : List ℕ) (a : Assignment) where
       by true q = sym (le-leb (a .start + a .len) (length buffer) (omega (arith, leb-true (a .len) (length buffer - a .start) q)))
       by false q = sym (lt-leb (a .start + a .len) (length buffer) (omega (arith, leb-false (a .len) (length buffer - a .start) q)))
 
-  pub lies-not : length buffer < a .start → false ≡ lies buffer a
+  pub lies-not : length buffer < a .start → leb (a .start) (length buffer) ≡ lies buffer a
   unfolding lies
-  lies-not h = sym (lt-leb (a .start + a .len) (length buffer) (omega arith))
+  lies-not h = lt-leb (a .start) (length buffer) h ∙ sym (lt-leb (a .start + a .len) (length buffer) (omega arith))
 
   pub script-is : take (a .start + a .len - a .start) (drop (a .start) buffer) ≡ scriptIn buffer a
   unfolding scriptIn
@@ -34,9 +34,9 @@ module _ (buffer : List ℕ) (a : Assignment) where
     unfolding lies
     lies-in q = leb-true (a .start + a .len) (length buffer) (sym is ∙ q)
 
-    pub sound-not : b ≡ false → false ≡ sound buffer a
+    pub sound-not : b ≡ false → b ≡ sound buffer a
     unfolding sound
-    sound-not q = rw (sym is ∙ q)
+    sound-not q = q ∙ rw (sym is ∙ q)
 
     pub sound-by : b ≡ true → (s : List ℕ) → s ≡ scriptIn buffer a → (r : Bool) → r ≡ taproot s → r ≡ sound buffer a
     unfolding sound
@@ -47,7 +47,7 @@ pub ruleset scripts-lie = (lies-by, lies-not)
 pub ruleset sounds = (lies-in, sound-not, sound-by)
 
 module _ (n : ℕ) (buffer : List ℕ) (a : Assignment) where
-  pub allowed-not : n ≤ a .output → false ≡ allowed n buffer a
+  pub allowed-not : n ≤ a .output → ltb (a .output) n ≡ allowed n buffer a
   unfolding allowed
   allowed-not h = rw (le-ltb (a .output) n h)
 

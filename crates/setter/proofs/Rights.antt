@@ -1,14 +1,12 @@
 -- Laws of what is right: one output, all of them, and the list that is given.
 use mathlib.Core.Path.{_≡_, refl, sym, _∙_, ap}
-use mathlib.Core.Bool.{Bool, true, false, _&&_}
+use mathlib.Core.Bool.{Bool, true, false, not, _&&_, _||_}
 use mathlib.Core.List.{List, [], _∷_}
-use Prim.Native.Nat.{ℕ, _+_, _%_, _^_, _≤_, _<_}
+use Prim.Native.Nat.{ℕ, _+_, _%_, _≤_, _<_}
 use native.Mathlib.Numerals.{add-one}
 use native.Mathlib.Omega.{arith}
 use lib.Dec.{eqb}
 use lib.ListN.{length, drop, drop-of-length-le}
-use mir.Syntax.{w64}
-use mir.Val.{Fits}
 use Rattle.format.specs.Tests.{every}
 use Rattle.format.specs.Content.{present}
 use Rattle.format.specs.Scripts.{Out, allowed, named, served, whole, cutShort, andMore, flat, rightFor, settable}
@@ -16,15 +14,15 @@ use Rattle.format.specs.declared.MapEntry.{MapEntry}
 use Rattle.format.specs.declared.Psbt.{Psbt}
 use Rattle.format.specs.declared.State.{State}
 use Rattle.format.specs.declared.Assignment.{Assignment}
+use Rattle.format.proofs.Tests.{never-true}
 use Rattle.entries.specs.Words.{pairCount, mapCount, mapAt}
-use Rattle.entries.proofs.Tables.{map-count}
-use Rattle.all_maps.specs.Alls.{outAt, outsOf}
-use Rattle.all_maps.specs.Places.{fieldAt, foundIn}
-use Rattle.all_maps.specs.declared.FoundAt.{FoundAt}
-use Rattle.all_maps.specs.declared.FoundAt.the-variants as F
-use Rattle.all_maps.proofs.Runs.{from-length, from-here}
-use Rattle.all_maps.proofs.Gathers.{output-listed, output-usable}
-use Rattle.all_maps.proofs.Fields.{found-shows, out-script}
+use Rattle.all_maps_fit.specs.Alls.{outAt, outsOf}
+use Rattle.all_maps_fit.specs.Places.{fieldAt, foundIn}
+use Rattle.all_maps_fit.specs.declared.FoundAt.{FoundAt}
+use Rattle.all_maps_fit.specs.declared.FoundAt.the-variants as F
+use Rattle.all_maps_fit.proofs.Runs.{from-length, from-here}
+use Rattle.all_maps_fit.proofs.Gathers.{output-listed, output-usable}
+use Rattle.all_maps_fit.proofs.Fields.{found-shows, out-script}
 use Rattle.setter.specs.Records.{records}
 use Rattle.setter.specs.Rights.{servedAt, rightGiven, OutputOf}
 
@@ -32,12 +30,6 @@ use Rattle.setter.specs.Rights.{servedAt, rightGiven, OutputOf}
 module _ (f P M : List ℕ) (s : Psbt) (i : ℕ) (k : OutputOf f P M s i) where
   pub output-in : 1 + s .inputs + i < mapCount M
   output-in = output-listed f P M s (k .fits) i (k .less)
-
-  pub output-sum : length M < 2 ^ 64 → Fits w64 (1 + s .inputs)
-  output-sum b = record { fits = omega (arith, output-in, map-count M) }
-
-  pub output-fits : length M < 2 ^ 64 → Fits w64 (1 + s .inputs + i)
-  output-fits b = record { fits = omega (arith, output-in, map-count M) }
 
   module _ (m : MapEntry) (e : m ≡ mapAt M (1 + s .inputs + i)) where
     pub output-within : m .first + m .count ≤ pairCount P
@@ -55,7 +47,7 @@ module _ (f P M : List ℕ) (s : Psbt) (i : ℕ) (k : OutputOf f P M s i) where
       unfolding foundIn present
       script-some a n q = shows (F.At a n) q
 
-pub ruleset scripts-there = (output-in, output-sum, output-fits, output-within, script-none, script-some)
+pub ruleset scripts-there = (output-in, output-within, script-none, script-some)
 
 -- one output
 module _ (xs : List Assignment) (i : ℕ) (o : Out) (n : ℕ) (c : n ≡ length (named i xs)) (b : Bool) (is : b ≡ present (o .script)) where
@@ -98,21 +90,26 @@ module _ (f P M : List ℕ) (s : Psbt) (l : List ℕ) (i : ℕ) (p : Serving f P
 
 pub ruleset servings = (serve-done, serve-stop, serve-more)
 
+-- neither of two
+neither : (a b : Bool) → not a ≡ true → not b ≡ not (a || b)
+neither true b q = never-true q
+neither false b q = refl
+
+one-of-two : (a b : Bool) → not a ≡ false → not a ≡ not (a || b)
+one-of-two true b q = refl
+one-of-two false b q = never-true (sym q)
+
 -- scripts may still be set
 module _ (t : State) where
-  pub settable-set : t .set ≡ true → false ≡ settable t
+  pub settable-set : not (t .set) ≡ false → not (t .set) ≡ settable t
   unfolding settable
-  settable-set h = rw h
+  settable-set h = one-of-two (t .set) (t .written) h
 
-  pub settable-written : t .set ≡ false → t .written ≡ true → false ≡ settable t
+  pub settable-free : not (t .set) ≡ true → not (t .written) ≡ settable t
   unfolding settable
-  settable-written h k = rw (h, k)
+  settable-free h = neither (t .set) (t .written) h
 
-  pub settable-yes : t .set ≡ false → t .written ≡ false → true ≡ settable t
-  unfolding settable
-  settable-yes h k = rw (h, k)
-
-pub ruleset settables = (settable-set, settable-written, settable-yes)
+pub ruleset settables = (settable-set, settable-free)
 
 -- a list of whole records, and one that ends inside a record
 pub flat-whole : (l : List ℕ) → length l % 3 ≡ 0 → flat l ≡ whole (records l)

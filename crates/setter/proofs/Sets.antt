@@ -9,7 +9,8 @@ use lib.Dec.{ltb, eqb}
 use borrow.Author.Tests.{ne-eqb, eqb-true, eqb-false}
 use Rattle.format.specs.Tests.{every}
 use Rattle.format.specs.Tables.{view, gather, mapsReported}
-use Rattle.format.specs.Scripts.{Out, Reported, allowed, served, Given, whole, cutShort, flat, entriesFor, rightFor, settable, setOut, afterSet, setTable, setGiven, setBy, setScripts}
+use Rattle.format.specs.Scripts.{Out, Reported, allowed, served, Given, whole, cutShort, flat, entriesFor}
+use Rattle.format.specs.Scripts.{rightFor, settable, setOut, afterSet, setTable, setGiven, setBy, setScripts}
 use Rattle.format.specs.Told.{toldLeft, toldSet, toldSetOut}
 use Rattle.format.specs.declared.PsbtError.{PsbtError}
 use Rattle.format.specs.declared.PsbtError.the-variants.{InvalidOutputScripts}
@@ -21,9 +22,9 @@ use Rattle.format.specs.declared.Ruled.the-variants as R
 use Rattle.format.specs.declared.ScriptsSet.{ScriptsSet}
 use Rattle.format.specs.declared.ScriptsSet.the-variants.{Refused}
 use Rattle.format.proofs.Tests.{and-left, and-right, never-true}
-use Rattle.all_maps.specs.Alls.{ruledBy, AllFit, outAt, outsOf}
-use Rattle.all_maps.proofs.Runs.{from-length}
-use Rattle.all_maps.proofs.Gathers.{all-are, all-not, all-reported}
+use Rattle.all_maps_fit.specs.Alls.{ruledBy, AllFit, outAt, outsOf}
+use Rattle.all_maps_fit.proofs.Runs.{from-length}
+use Rattle.all_maps_fit.proofs.Gathers.{all-are, all-not, all-reported}
 use Rattle.setter.specs.Records.{records, lies, sound}
 use Rattle.setter.specs.Fills.{entriesFrom, stateAfter, filledFor, Sound}
 use Rattle.setter.specs.Rights.{rightGiven}
@@ -40,7 +41,8 @@ unfolding afterSet stateAfter
 after-is t [] = refl
 after-is t (o ∷ os) = rw (ne-eqb (suc (length os)) 0 (λ q. omega (arith, q)))
 
-table-is : (outs : List Out) (buffer : List ℕ) (t : State) (T : List ℕ) (xs : List Assignment) → setTable outs buffer t T xs ≡ filledFor (length outs) buffer t T xs
+table-is : (outs : List Out) (buffer : List ℕ) (t : State) (T : List ℕ) (xs : List Assignment)
+    → setTable outs buffer t T xs ≡ filledFor (length outs) buffer t T xs
 unfolding setTable filledFor
 table-is outs buffer t T xs = rw (entries-are buffer xs 0 outs, after-is t outs)
 
@@ -49,7 +51,10 @@ sound-all : (n : ℕ) (buffer : List ℕ) (xs : List Assignment) → every (allo
 unfolding every allowed sound lies
 sound-all n buffer [] h = refl
 sound-all n buffer (a ∷ xs) h =
-    rw (and-right (ltb (a .output) n) (sound buffer a) (and-left (allowed n buffer a) (every (allowed n buffer) xs) h), sound-all n buffer xs (and-right (allowed n buffer a) (every (allowed n buffer) xs) h))
+    rw (
+      and-right (ltb (a .output) n) (sound buffer a) (and-left (allowed n buffer a) (every (allowed n buffer) xs) h),
+      sound-all n buffer xs (and-right (allowed n buffer a) (every (allowed n buffer) xs) h),
+    )
 
 -- the definition, by whether what is given is right
 right-wrong : (outs : List Out) (buffer : List ℕ) (t : State) (T : List ℕ) (g : Given) → rightGiven outs buffer t g ≡ false
@@ -78,19 +83,25 @@ module _ (f P M : List ℕ) (s : Psbt) (buffer : List ℕ) (t : State) (l : List
     unfolding rightFor
     set-sound =
         let x = and-right (settable t) (rightFor (outsOf f P M s) buffer (records l)) right in
-        record { all = sound-all (length (outsOf f P M s)) buffer (records l) (and-left (every (allowed (length (outsOf f P M s)) buffer) (records l)) (served 0 (outsOf f P M s) (records l)) x) }
+        record {
+          all = sound-all (length (outsOf f P M s)) buffer (records l)
+              (and-left (every (allowed (length (outsOf f P M s)) buffer) (records l)) (served 0 (outsOf f P M s) (records l)) x);
+        }
 
-    pub set-right : (T T₁ : List ℕ) (r : ScriptsSet) → setOut r T₁ ≡ filledFor (s .outputs) buffer t T (records l) → setOut r T₁ ≡ setGiven (outsOf f P M s) buffer t T (flat l)
+    pub set-right : (T T₁ : List ℕ) (r : ScriptsSet) → setOut r T₁ ≡ filledFor (s .outputs) buffer t T (records l)
+        → setOut r T₁ ≡ setGiven (outsOf f P M s) buffer t T (flat l)
     unfolding setGiven outsOf
     set-right T T₁ r e =
         e
         ∙ sym (ap (setGiven (outsOf f P M s) buffer t T) is-whole
-        ∙ rw right (table-is (outsOf f P M s) buffer t T (records l) ∙ ap (λ (n : ℕ). filledFor n buffer t T (records l)) (from-length (outAt f P M s) 0 (s .outputs))))
+        ∙ rw right (table-is (outsOf f P M s) buffer t T (records l)
+        ∙ ap (λ (n : ℕ). filledFor n buffer t T (records l)) (from-length (outAt f P M s) 0 (s .outputs))))
 
 pub ruleset sets-fit = (set-wrong, set-sound, set-right)
 
 -- and by whether all maps are fit, as it is told
-module _ (f P M : List ℕ) (s : Psbt) (l buffer : List ℕ) (t : State) (T : List ℕ) (r : Ruled) (is : r ≡ ruledBy (gather (view f P M s) 0 (mapsReported s))) where
+module _ (f P M : List ℕ) (s : Psbt) (l buffer : List ℕ) (t : State) (T : List ℕ) (r : Ruled)
+    (is : r ≡ ruledBy (gather (view f P M s) 0 (mapsReported s))) where
   pub told-unfit : (e : PsbtError) → r ≡ R.Refused e → toldLeft (toldSet (Refused e)) T ≡ toldSetOut (setScripts (view f P M s) s (flat l) buffer t T)
   unfolding setScripts setBy toldSetOut
   told-unfit e q = ap (λ (x : Reported). toldSetOut (setBy buffer t T (flat l) x)) (all-not f P M s r is e q)

@@ -10,7 +10,7 @@ use Rattle.format.specs.Scripts.{Out, named, Given, whole, cutShort, rightFor, 
 use Rattle.format.specs.declared.Psbt.{Psbt}
 use Rattle.format.specs.declared.State.{State}
 use Rattle.format.specs.declared.Assignment.{Assignment}
-use Rattle.all_maps.specs.Alls.{AllFit}
+use Rattle.all_maps_fit.specs.Alls.{AllFit}
 
 -- output number i is named once where it has no script 04, and never where it has one
 unfoldable pub servedAt : List Assignment → ℕ → Out → Bool

@@ -1,5 +1,5 @@
 // The setter: scripts that the signer gives to the outputs without one.
-use all_maps::FoundAt;
+use all_maps_fit::FoundAt;
 use format::Assignment;
 use format::Psbt;
 use format::PsbtError;
@@ -13,10 +13,10 @@ ghost use lib.ListN.{length, replicate};
 ghost use Rattle.format.specs.Tests.{every};
 ghost use Rattle.format.specs.Content.{present};
 ghost use Rattle.format.specs.Tables.{view};
-ghost use Rattle.format.specs.Scripts.{scriptIn, allowed, named, served, flat, entryFor, settable, setOut, setGiven, setScripts};
+ghost use Rattle.format.specs.Scripts.{scriptEntry, scriptIn, allowed, named, served, flat, entryFor, settable, setOut, setGiven, setScripts};
 ghost use Rattle.format.specs.Told.{toldLeft, toldSet, toldSetOut};
 ghost use Rattle.writer.specs.Writes.{wrote};
-ghost use Rattle.all_maps.specs.Alls.{AllFit, outAt, outsOf};
+ghost use Rattle.all_maps_fit.specs.Alls.{AllFit, outAt, outsOf};
 ghost use Rattle.setter.specs.Records.{records, recordCount, recordAt, recordFrom, lies, sound, firstOf};
 ghost use Rattle.setter.specs.Fills.{entriesFrom, stateAfter, filledFor, Giving, Sound, Ready};
 ghost use Rattle.setter.specs.Rights.{servedAt, rightGiven, OutputOf};
@@ -62,11 +62,7 @@ fn script_lies(buffer: &[u8], a: Assignment) -> bool
     ensures { λ r. ⌜ r ≡ lies (now (buffer .entry)) a ⌝ }
 {
     let room = buffer.len() as u64;
-    if a.start <= room {
-        a.len <= room - a.start
-    } else {
-        false
-    }
+    a.start <= room && a.len <= room - a.start
 }
 
 // The script of an assignment that lies in the buffer.
@@ -82,22 +78,14 @@ fn script_in(buffer: &[u8], a: Assignment) -> &[u8]
 pub fn is_taproot(buffer: &[u8], a: Assignment) -> bool
     ensures { λ r. ⌜ r ≡ sound (now (buffer .entry)) a ⌝ }
 {
-    if script_lies(buffer, a) {
-        scripts::is_taproot(script_in(buffer, a))
-    } else {
-        false
-    }
+    script_lies(buffer, a) && scripts::is_taproot(script_in(buffer, a))
 }
 
 // An assignment is right by itself: its output exists and its script is one.
 pub fn is_allowed(outputs: u64, buffer: &[u8], a: Assignment) -> bool
     ensures { λ r. ⌜ r ≡ allowed outputs (now (buffer .entry)) a ⌝ }
 {
-    if a.output < outputs {
-        is_taproot(buffer, a)
-    } else {
-        false
-    }
+    a.output < outputs && is_taproot(buffer, a)
 }
 
 // Each assignment of a list is right by itself.
@@ -162,10 +150,10 @@ fn put_script(table: &mut [u8], at: usize, script: &[u8])
 
 // Writes the entry of an output that gets no script: zero bytes.
 pub fn put_zeros(table: &mut [u8], at: usize)
-    requires { ⌜ at + 35 ≤ length (now table) ⌝ }
-    ensures { λ _. ⌜ now (table .exit) ≡ wrote (now (table .entry)) at (replicate 35 0) ⌝ }
+    requires { ⌜ at + scriptEntry ≤ length (now table) ⌝ }
+    ensures { λ _. ⌜ now (table .exit) ≡ wrote (now (table .entry)) at (replicate scriptEntry 0) ⌝ }
 {
-    let zeros = [0u8; 35];
+    let zeros = [0u8; scripts::ENTRY];
     writer::put_bytes(table, at, &zeros);
 }
 
@@ -179,8 +167,9 @@ pub fn put_given(table: &mut [u8], at: usize, buffer: &[u8], a: Assignment)
 
 // Writes the entry of output `i`: 01 and the script that is given for it, or zero bytes.
 fn put_entry(table: &mut [u8], i: usize, list: &[u64], buffer: &[u8])
-    requires { ⌜ Ready (now table) (i * 35 + 35) (now buffer) (now list) ⌝ }
-    ensures { λ _. ⌜ now (table .exit) ≡ wrote (now (table .entry)) (i * 35) (entryFor (now (buffer .entry)) (named i (records (now (list .entry))))) ⌝ }
+    requires { ⌜ Ready (now table) (i * scriptEntry + scriptEntry) (now buffer) (now list) ⌝ }
+    ensures { λ _. ⌜ now (table .exit) ≡ wrote (now (table .entry)) (i * scriptEntry)
+        (entryFor (now (buffer .entry)) (named i (records (now (list .entry))))) ⌝ }
 {
     let at = i * scripts::ENTRY;
     match first_named(list, i as u64) {
@@ -196,7 +185,7 @@ fn put_entry(table: &mut [u8], i: usize, list: &[u64], buffer: &[u8])
 
 // Writes the entries of all outputs.
 fn put_entries(table: &mut [u8], outputs: usize, list: &[u64], buffer: &[u8])
-    requires { ⌜ Ready (now table) (outputs * 35) (now buffer) (now list) ⌝ }
+    requires { ⌜ Ready (now table) (outputs * scriptEntry) (now buffer) (now list) ⌝ }
     ensures { λ _. ⌜ now (table .exit) ≡ wrote (now (table .entry)) 0 (entriesFrom (now (buffer .entry)) (records (now (list .entry))) 0 outputs) ⌝ }
 {
     let mut i: usize = 0;
@@ -213,10 +202,7 @@ pub fn state_after(state: State, outputs: u64) -> State
     if outputs == 0 {
         return state;
     }
-    State {
-        set: true,
-        written: state.written,
-    }
+    State { set: true, ..state }
 }
 
 // Fills the table, if it has the room.
@@ -236,8 +222,8 @@ pub fn has_script(file: &[u8], pairs: &[u32], maps: &[u32], psbt: Psbt, i: u64) 
     requires { ⌜ OutputOf (now file) (now pairs) (now maps) psbt i ⌝ }
     ensures { λ r. ⌜ r ≡ present (outAt (now (file .entry)) (now (pairs .entry)) (now (maps .entry)) psbt i .script) ⌝ }
 {
-    let m = entries::map_entry(maps, (1 + psbt.inputs + i) as usize);
-    match all_maps::found_field(file, pairs, m, format::PSBT_OUT_SCRIPT) {
+    let m = all_maps_fit::output_entry(maps, psbt, i);
+    match all_maps_fit::found_field(file, pairs, m, format::PSBT_OUT_SCRIPT) {
         FoundAt::Missing => false,
         FoundAt::At { start: _, len: _ } => true,
     }
@@ -276,13 +262,7 @@ fn all_served(file: &[u8], pairs: &[u32], maps: &[u32], psbt: Psbt, list: &[u64]
 pub fn is_settable(state: State) -> bool
     ensures { λ r. ⌜ r ≡ settable state ⌝ }
 {
-    if state.set {
-        return false;
-    }
-    if state.written {
-        return false;
-    }
-    true
+    !state.set && !state.written
 }
 
 // What is given is whole, may still be set, and is right for the outputs.
@@ -296,7 +276,8 @@ fn is_right(
     state: State,
 ) -> bool
     requires { ⌜ AllFit (now file) (now pairs) (now maps) psbt ⌝ }
-    ensures { λ r. ⌜ r ≡ rightGiven (outsOf (now (file .entry)) (now (pairs .entry)) (now (maps .entry)) psbt) (now (buffer .entry)) state (flat (now (list .entry))) ⌝ }
+    ensures { λ r. ⌜ r ≡ rightGiven (outsOf (now (file .entry)) (now (pairs .entry)) (now (maps .entry)) psbt) (now (buffer .entry)) state
+        (flat (now (list .entry))) ⌝ }
 {
     if list.len() % RECORD == 0 {
         if is_settable(state) {
@@ -322,7 +303,8 @@ fn set_fit(
     table: &mut [u8],
 ) -> ScriptsSet
     requires { ⌜ AllFit (now file) (now pairs) (now maps) psbt ⌝ }
-    ensures { λ r. ⌜ setOut r (now (table .exit)) ≡ setGiven (outsOf (now (file .entry)) (now (pairs .entry)) (now (maps .entry)) psbt) (now (buffer .entry)) state (now (table .entry)) (flat (now (list .entry))) ⌝ }
+    ensures { λ r. ⌜ setOut r (now (table .exit)) ≡ setGiven (outsOf (now (file .entry)) (now (pairs .entry)) (now (maps .entry)) psbt)
+        (now (buffer .entry)) state (now (table .entry)) (flat (now (list .entry))) ⌝ }
 {
     if is_right(file, pairs, maps, psbt, list, buffer, state) {
         return fill(psbt.outputs, list, buffer, state, table);
@@ -342,9 +324,11 @@ pub fn set_sp_output_scripts(
     state: State,
     scripts: &mut [u8],
 ) -> ScriptsSet
-    ensures { λ r. ⌜ toldLeft (toldSet r) (now (scripts .exit)) ≡ toldSetOut (setScripts (view (now (file .entry)) (now (pairs .entry)) (now (maps .entry)) psbt) psbt (flat (now (list .entry))) (now (buffer .entry)) state (now (scripts .entry))) ⌝ }
+    ensures { λ r. ⌜ toldLeft (toldSet r) (now (scripts .exit)) ≡ toldSetOut (setScripts
+        (view (now (file .entry)) (now (pairs .entry)) (now (maps .entry)) psbt) psbt (flat (now (list .entry))) (now (buffer .entry)) state
+        (now (scripts .entry))) ⌝ }
 {
-    match all_maps::all_fit(file, pairs, maps, psbt) {
+    match all_maps_fit::all_fit(file, pairs, maps, psbt) {
         Ruled::Refused(e) => ScriptsSet::Refused(e),
         Ruled::Passed => set_fit(file, pairs, maps, psbt, list, buffer, state, scripts),
     }

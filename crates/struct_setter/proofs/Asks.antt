@@ -9,7 +9,7 @@ use lib.ListN.{length, replicate}
 use mir.Syntax.{w64}
 use mir.Val.{Fits}
 use Rattle.format.specs.Content.{present}
-use Rattle.format.specs.Scripts.{scriptIn, allowed, settable}
+use Rattle.format.specs.Scripts.{scriptIn, scriptEntry, allowed, settable}
 use Rattle.format.specs.declared.PsbtError.{PsbtError}
 use Rattle.format.specs.declared.PsbtError.the-variants.{InvalidOutputScripts, NoRoom}
 use Rattle.format.specs.declared.Psbt.{Psbt}
@@ -20,7 +20,7 @@ use Rattle.format.specs.declared.Assignment.{Assignment}
 use Rattle.format.specs.declared.ScriptsSet.{ScriptsSet}
 use Rattle.format.specs.declared.ScriptsSet.the-variants.{Refused, Done}
 use Rattle.writer.specs.Writes.{wrote}
-use Rattle.all_maps.specs.Alls.{outAt}
+use Rattle.all_maps_fit.specs.Alls.{outAt}
 use Rattle.setter.specs.Fills.{stateAfter, Giving}
 use Rattle.setter.specs.Rights.{OutputOf}
 use Rattle.struct_setter.specs.Names.{namedBy, namesAfter, servedBy, entryBy, Entry}
@@ -57,17 +57,10 @@ module _ (i : ℕ) (n : Names) (a : Assignment) where
 
 pub ruleset names-after = (after-this, after-other)
 
--- whether all are right by themselves
-module _ (b : Bool) (n : ℕ) (buffer : List ℕ) (a : Assignment) where
-  pub too-yes : b ≡ true → (r : Bool) → r ≡ allowed n buffer a → r ≡ allowedToo b n buffer a
-  unfolding allowedToo
-  too-yes h r e = rw h e
-
-  pub too-no : b ≡ false → false ≡ allowedToo b n buffer a
-  unfolding allowedToo
-  too-no h = rw h
-
-pub ruleset allowed-toos = (too-yes, too-no)
+-- whether all are right by themselves: where those before are, this one decides
+pub too-yes : (b : Bool) (n : ℕ) (buffer : List ℕ) (a : Assignment) → b ≡ true → (r : Bool) → r ≡ allowed n buffer a → r ≡ allowedToo b n buffer a
+unfolding allowedToo
+too-yes b n buffer a h r e = rw h e
 
 -- what one assignment answers
 module _ (buffer : List ℕ) (n : ℕ) (k : Task) (a : Assignment) where
@@ -159,13 +152,13 @@ module _ (n i : ℕ) (t : State) where
     unfolding serving
     serve-next h = rw (lt-ltb i n h)
 
-    pub serve-written : n ≤ i → n ≤ room / 35 → (r : Task) → r ≡ writing n 0 t → r ≡ serving n i t room
+    pub serve-written : n ≤ i → n ≤ room / scriptEntry → (r : Task) → r ≡ writing n 0 t → r ≡ serving n i t room
     unfolding serving
-    serve-written h k r e = rw (le-ltb i n h, le-leb (35 * n) room (omega arith)) e
+    serve-written h k r e = rw (le-ltb i n h, le-leb (scriptEntry * n) room (omega arith)) e
 
-    pub serve-full : n ≤ i → room / 35 < n → Over (Refused NoRoom) ≡ serving n i t room
+    pub serve-full : n ≤ i → room / scriptEntry < n → Over (Refused NoRoom) ≡ serving n i t room
     unfolding serving
-    serve-full h k = rw (le-ltb i n h, lt-leb (35 * n) room (omega arith))
+    serve-full h k = rw (le-ltb i n h, lt-leb (scriptEntry * n) room (omega arith))
 
 pub ruleset next-writes = (write-next, write-over)
 
@@ -200,22 +193,22 @@ pub ruleset after-serves = (serve-right, serve-wrong)
 
 -- the entry of an output
 module _ (T : List ℕ) (i : ℕ) (buffer : List ℕ) (n : Names) (k : Entry T i buffer n) where
-  pub put-nobody : n ≡ Nobody → (T₁ : List ℕ) → T₁ ≡ wrote T (i * 35) (replicate 35 0) → T₁ ≡ wrote T (i * 35) (entryBy buffer n)
+  pub put-nobody : n ≡ Nobody → (T₁ : List ℕ) → T₁ ≡ wrote T (i * scriptEntry) (replicate scriptEntry 0) → T₁ ≡ wrote T (i * scriptEntry) (entryBy buffer n)
   unfolding entryBy
   put-nobody e T₁ w = w ∙ rw e
 
   module _ (a : Assignment) where
-    pub once-giving : n ≡ Once a → Giving T (i * 35) buffer a
+    pub once-giving : n ≡ Once a → Giving T (i * scriptEntry) buffer a
     once-giving e = record { room = k .room; given = k .once a e }
 
-    pub again-giving : n ≡ Again a → Giving T (i * 35) buffer a
+    pub again-giving : n ≡ Again a → Giving T (i * scriptEntry) buffer a
     again-giving e = record { room = k .room; given = k .again a e }
 
-    pub put-once : n ≡ Once a → (T₁ : List ℕ) → T₁ ≡ wrote T (i * 35) (1 ∷ scriptIn buffer a) → T₁ ≡ wrote T (i * 35) (entryBy buffer n)
+    pub put-once : n ≡ Once a → (T₁ : List ℕ) → T₁ ≡ wrote T (i * scriptEntry) (1 ∷ scriptIn buffer a) → T₁ ≡ wrote T (i * scriptEntry) (entryBy buffer n)
     unfolding entryBy
     put-once e T₁ w = w ∙ rw e
 
-    pub put-again : n ≡ Again a → (T₁ : List ℕ) → T₁ ≡ wrote T (i * 35) (1 ∷ scriptIn buffer a) → T₁ ≡ wrote T (i * 35) (entryBy buffer n)
+    pub put-again : n ≡ Again a → (T₁ : List ℕ) → T₁ ≡ wrote T (i * scriptEntry) (1 ∷ scriptIn buffer a) → T₁ ≡ wrote T (i * scriptEntry) (entryBy buffer n)
     unfolding entryBy
     put-again e T₁ w = w ∙ rw e
 
@@ -237,11 +230,13 @@ module _ (f P M : List ℕ) (s : Psbt) (buffer : List ℕ) (t : State) (T : List
   turn-over r e = rw e
 
   module _ (i : ℕ) (x : Names) where
-    pub turn-judged : k ≡ Serve i x → (r : Task) → r ≡ afterServe (s .outputs) t (length T) i (present (outAt f P M s i .script)) x → turned r T ≡ turnOf f P M s buffer t T k
+    pub turn-judged : k ≡ Serve i x → (r : Task) → r ≡ afterServe (s .outputs) t (length T) i (present (outAt f P M s i .script)) x
+        → turned r T ≡ turnOf f P M s buffer t T k
     unfolding turnOf
     turn-judged e r w = rw (e, w)
 
-    pub turn-written : k ≡ Write i x → (T₁ : List ℕ) → T₁ ≡ wrote T (i * 35) (entryBy buffer x) → (r : Task) → r ≡ writing (s .outputs) (i + 1) t → turned r T₁ ≡ turnOf f P M s buffer t T k
+    pub turn-written : k ≡ Write i x → (T₁ : List ℕ) → T₁ ≡ wrote T (i * scriptEntry) (entryBy buffer x) → (r : Task) → r ≡ writing (s .outputs) (i + 1) t
+        → turned r T₁ ≡ turnOf f P M s buffer t T k
     unfolding turnOf
     turn-written e T₁ v r w = rw (e, v, w)
 

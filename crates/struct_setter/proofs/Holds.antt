@@ -11,7 +11,7 @@ use lib.ListN.{length}
 use Rattle.format.specs.Tests.{pick, every}
 use Rattle.format.specs.Content.{present}
 use Rattle.format.specs.Tables.{view, gather, mapsReported}
-use Rattle.format.specs.Scripts.{Out, Given, allowed, named, served, whole, flat, entryFor, settable, setOut, setGiven, setBy, setScripts}
+use Rattle.format.specs.Scripts.{Out, Given, scriptEntry, allowed, named, served, whole, flat, entryFor, settable, setOut, setGiven, setBy, setScripts}
 use Rattle.format.specs.Told.{toldLeft, toldSet, toldSetOut}
 use Rattle.format.specs.declared.PsbtError.the-variants.{InvalidOutputScripts, NoRoom}
 use Rattle.format.specs.declared.Psbt.{Psbt}
@@ -23,8 +23,8 @@ use Rattle.format.specs.declared.ScriptsSet.{ScriptsSet}
 use Rattle.format.specs.declared.ScriptsSet.the-variants.{Refused, Done}
 use Rattle.format.proofs.Tests.{pick-by, and-left, never-true}
 use Rattle.writer.specs.Writes.{wrote}
-use Rattle.all_maps.specs.Alls.{ruledBy, AllFit, outAt, outsOf}
-use Rattle.all_maps.proofs.Gathers.{all-are, all-not, all-reported}
+use Rattle.all_maps_fit.specs.Alls.{ruledBy, AllFit, outAt, outsOf}
+use Rattle.all_maps_fit.proofs.Gathers.{all-are, all-not, all-reported}
 use Rattle.setter.specs.Records.{records, sound}
 use Rattle.setter.specs.Fills.{stateAfter, Ready}
 use Rattle.setter.specs.Rights.{servedAt, rightGiven}
@@ -55,7 +55,7 @@ left-serving : (n i : ℕ) (t : State) (room : ℕ) → left n (serving n i t ro
 unfolding serving
 left-serving n i t room =
     pick-by (λ (k : Task). left n k ≤ n - i + n + 1) (ltb i n) _ _ (λ e. omega arith)
-    (λ e. pick-by (λ (k : Task). left n k ≤ n - i + n + 1) (leb (35 * n) room) _ _ (λ q. omega (arith, left-writing n 0 t)) (λ q. zero-le))
+    (λ e. pick-by (λ (k : Task). left n k ≤ n - i + n + 1) (leb (scriptEntry * n) room) _ _ (λ q. omega (arith, left-writing n 0 t)) (λ q. zero-le))
 
 -- how often an output is named decides as the assignments that name it do
 served-names : (has : Bool) (ys : List Assignment) → servedBy has (namesOf ys) ≡ eqb (length ys) (pick has 0 1)
@@ -110,7 +110,7 @@ module _ (f P M : List ℕ) (s : Psbt) (l buffer : List ℕ) (t : State) (T₀ :
   pub record Writes (i : ℕ) (x : Names) (T : List ℕ) : Type 0 where
     pub fits : AllFit f P M s
     pub right : true ≡ rightGiven (outsOf f P M s) buffer t (flat l)
-    pub room : s .outputs * 35 ≤ length T₀
+    pub room : s .outputs * scriptEntry ≤ length T₀
     pub less : i < s .outputs
     pub none : x ≡ Nobody
     pub filling : Filling T₀ (s .outputs) l buffer T i
@@ -129,26 +129,26 @@ module _ (f P M : List ℕ) (s : Psbt) (l buffer : List ℕ) (t : State) (T₀ :
   into-wrong fits e = into-over fits (Refused InvalidOutputScripts) T₀ (set-wrong f P M s buffer t l false e refl T₀)
 
   module _ (fits : AllFit f P M s) (right : true ≡ rightGiven (outsOf f P M s) buffer t (flat l)) where
-    into-write : s .outputs * 35 ≤ length T₀ → (i : ℕ) (T : List ℕ) → Filling T₀ (s .outputs) l buffer T i → Holds (writing (s .outputs) i t) T
+    into-write : s .outputs * scriptEntry ≤ length T₀ → (i : ℕ) (T : List ℕ) → Filling T₀ (s .outputs) l buffer T i → Holds (writing (s .outputs) i t) T
     unfolding writing
     into-write room i T filling =
         pick-by (λ (k : Task). Holds k T) (ltb i (s .outputs)) _ _
         (λ e. record { fits = fits; right = right; room = room; less = ltb-true i (s .outputs) e; none = refl; filling = filling })
         (λ e.
-        let whole-room : s .outputs ≤ length T₀ / 35 = omega (arith, room) in
+        let whole-room : s .outputs ≤ length T₀ / scriptEntry = omega (arith, room) in
         into-over fits (Done (stateAfter t (s .outputs))) T
         (set-right f P M s buffer t l true right refl T₀ T (Done (stateAfter t (s .outputs)))
         (filled-is (s .outputs) buffer t T₀ l (set-sound f P M s buffer t l true right refl) whole-room T (stateAfter t (s .outputs))
         (fill-done T₀ (s .outputs) l buffer T i filling (ltb-false i (s .outputs) e)) refl)))
 
-    into-table : Holds (pick (leb (35 * s .outputs) (length T₀)) (writing (s .outputs) 0 t) (Over (Refused NoRoom))) T₀
+    into-table : Holds (pick (leb (scriptEntry * s .outputs) (length T₀)) (writing (s .outputs) 0 t) (Over (Refused NoRoom))) T₀
     into-table =
-        pick-by (λ (k : Task). Holds k T₀) (leb (35 * s .outputs) (length T₀)) _ _
+        pick-by (λ (k : Task). Holds k T₀) (leb (scriptEntry * s .outputs) (length T₀)) _ _
         (λ q.
-        let m : s .outputs * 35 ≤ length T₀ = omega (arith, leb-true (35 * s .outputs) (length T₀) q) in
+        let m : s .outputs * scriptEntry ≤ length T₀ = omega (arith, leb-true (scriptEntry * s .outputs) (length T₀) q) in
         into-write m 0 T₀ (fill-first T₀ (s .outputs) l buffer))
         (λ q.
-        let m : length T₀ / 35 < s .outputs = omega (arith, leb-false (35 * s .outputs) (length T₀) q) in
+        let m : length T₀ / scriptEntry < s .outputs = omega (arith, leb-false (scriptEntry * s .outputs) (length T₀) q) in
         into-over fits (Refused NoRoom) T₀ (set-right f P M s buffer t l true right refl T₀ T₀ (Refused NoRoom) (filled-none (s .outputs) buffer t T₀ l m)))
 
   module _ (w : length l % 3 ≡ 0) where
@@ -189,32 +189,46 @@ module _ (f P M : List ℕ) (s : Psbt) (l buffer : List ℕ) (t : State) (T₀ :
         → Next (s .outputs - i + s .outputs + 1) (turned (pick c (serving (s .outputs) (i + 1) t (length T₀)) wrong) T₀)
     next-serve i h c is =
         pick-by (λ (k : Task). Next (s .outputs - i + s .outputs + 1) (turned k T₀)) c _ _
-        (λ q. (into-serve (h .fits) (h .may) (h .all) (i + 1) (serve-more f P M s l i (h .on) (h .less) c is q), omega (arith, left-serving (s .outputs) (i + 1) t (length T₀), h .less)))
+        (λ q. (
+          into-serve (h .fits) (h .may) (h .all) (i + 1) (serve-more f P M s l i (h .on) (h .less) c is q),
+          omega
+              (arith, left-serving (s .outputs) (i + 1) t (length T₀), h .less),
+        ))
         (λ q. (into-wrong (h .fits) (right-as (h .fits) (h .may) (h .all) false (serve-stop f P M s l i (h .on) (h .less) c is q)), omega arith))
 
-    next-write : (i : ℕ) (T T₁ : List ℕ) → Writes i Nobody T → T₁ ≡ wrote T (i * 35) (entryFor buffer (named i (records l)))
+    next-write : (i : ℕ) (T T₁ : List ℕ) → Writes i Nobody T → T₁ ≡ wrote T (i * scriptEntry) (entryFor buffer (named i (records l)))
         → Next (s .outputs - i) (turned (writing (s .outputs) (i + 1) t) T₁)
     next-write i T T₁ h e =
-        let ready : Ready T₀ (s .outputs * 35) buffer l = record { room = h .room; sounds = set-sound f P M s buffer t l true (h .right) refl } in
-        (into-write (h .fits) (h .right) (h .room) (i + 1) T₁ (fill-more T₀ (s .outputs) l buffer T i (h .filling) ready (h .less) T₁ e), omega (arith, left-writing (s .outputs) (i + 1) t, h .less))
+        let ready : Ready T₀ (s .outputs * scriptEntry) buffer l = record { room = h .room; sounds = set-sound f P M s buffer t l true (h .right) refl } in (
+          into-write (h .fits) (h .right) (h .room) (i + 1) T₁ (fill-more T₀ (s .outputs) l buffer T i (h .filling) ready (h .less) T₁ e),
+          omega
+              (arith, left-writing (s .outputs) (i + 1) t, h .less),
+        )
 
-    next-by : (k : Task) (T : List ℕ) → Holds k T → going k ≡ true → Next (left (s .outputs) k) (turnOf f P M s buffer t T (tallied buffer (s .outputs) k (records l)))
+    next-by : (k : Task) (T : List ℕ) → Holds k T → going k ≡ true
+        → Next (left (s .outputs) k) (turnOf f P M s buffer t T (tallied buffer (s .outputs) k (records l)))
     unfolding going turnOf afterServe
     next-by (Check b) T h g =
         subst (λ (c : Bool). Next (s .outputs + s .outputs + 2) (turnOf f P M s buffer t T (tallied buffer (s .outputs) (Check c) (records l)))) (sym (h .0))
         (subst (λ (k : Task). Next (s .outputs + s .outputs + 2) (turnOf f P M s buffer t T k)) (sym (check-all buffer (s .outputs) (records l)))
-        (subst (λ (X : List ℕ). Next (s .outputs + s .outputs + 2) (turned (pick (every (allowed (s .outputs) buffer) (records l)) (serving (s .outputs) 0 t (length X)) wrong) X)) (sym (h .1 .same))
+        (subst (λ (X : List ℕ). Next (s .outputs + s .outputs + 2)
+        (turned (pick (every (allowed (s .outputs) buffer) (records l)) (serving (s .outputs) 0 t (length X)) wrong) X)) (sym (h .1 .same))
         (next-check (record { fits = h .1 .fits; may = h .1 .may; same = refl }) _ refl)))
     next-by (Serve i x) T h g =
-        let q : servedBy (present (outAt f P M s i .script)) (namesOf (named i (records l))) ≡ servedAt (records l) i (outAt f P M s i) = served-at (records l) i (outAt f P M s i) in
-        subst (λ (y : Names). Next (s .outputs - i + s .outputs + 1) (turnOf f P M s buffer t T (tallied buffer (s .outputs) (Serve i y) (records l)))) (sym (h .none))
+        let q : servedBy (present (outAt f P M s i .script)) (namesOf (named i (records l))) ≡ servedAt (records l) i (outAt f P M s i) = served-at
+        (records l) i (outAt f P M s i) in
+        subst (λ (y : Names). Next (s .outputs - i + s .outputs + 1) (turnOf f P M s buffer t T (tallied buffer (s .outputs) (Serve i y) (records l))))
+        (sym (h .none))
         (subst (λ (k : Task). Next (s .outputs - i + s .outputs + 1) (turnOf f P M s buffer t T k)) (sym (serve-all buffer (s .outputs) i (records l)))
-        (subst (λ (X : List ℕ). Next (s .outputs - i + s .outputs + 1) (turned (pick (servedBy (present (outAt f P M s i .script)) (namesOf (named i (records l)))) (serving (s .outputs) (i + 1) t (length X)) wrong) X)) (sym (h .same))
+        (subst (λ (X : List ℕ). Next (s .outputs - i + s .outputs + 1)
+        (turned (pick (servedBy (present (outAt f P M s i .script)) (namesOf (named i (records l)))) (serving (s .outputs) (i + 1) t (length X)) wrong) X)) (sym
+        (h .same))
         (next-serve i (record { fits = h .fits; may = h .may; same = refl; all = h .all; less = h .less; none = refl; on = h .on }) _ q)))
     next-by (Write i x) T h g =
         subst (λ (y : Names). Next (s .outputs - i) (turnOf f P M s buffer t T (tallied buffer (s .outputs) (Write i y) (records l)))) (sym (h .none))
         (subst (λ (k : Task). Next (s .outputs - i) (turnOf f P M s buffer t T k)) (sym (write-all buffer (s .outputs) i (records l)))
-        (next-write i T _ (record { fits = h .fits; right = h .right; room = h .room; less = h .less; none = refl; filling = h .filling }) (ap (wrote T (i * 35)) (entry-names buffer (named i (records l))))))
+        (next-write i T _ (record { fits = h .fits; right = h .right; room = h .room; less = h .less; none = refl; filling = h .filling })
+        (ap (wrote T (i * scriptEntry)) (entry-names buffer (named i (records l))))))
     next-by (Over r) T h g = never-true g
 
   -- what a turn asks is had
@@ -257,7 +271,8 @@ module _ (f P M : List ℕ) (s : Psbt) (l buffer : List ℕ) (t : State) (T₀ :
       }))
   due-by (Over r) T h g = never-true g
 
-  told-by : (k : Task) (T : List ℕ) → Holds k T → going k ≡ false → toldLeft (toldSet (answerOf k)) T ≡ toldSetOut (setScripts (view f P M s) s (flat l) buffer t T₀)
+  told-by : (k : Task) (T : List ℕ) → Holds k T → going k ≡ false
+      → toldLeft (toldSet (answerOf k)) T ≡ toldSetOut (setScripts (view f P M s) s (flat l) buffer t T₀)
   unfolding going answerOf toldSetOut
   told-by (Check b) T h g = never-true (sym g)
   told-by (Serve i x) T h g = never-true (sym g)
@@ -274,15 +289,19 @@ module _ (f P M : List ℕ) (s : Psbt) (xs : List Assignment) (buffer : List ℕ
 
   module _ (k : Task) (T : List ℕ) (h : Held k T) where
     pub held-due : going k ≡ true → Due f P M s buffer T (tallied buffer (s .outputs) k xs)
-    held-due g = subst (λ (ys : List Assignment). Due f P M s buffer T (tallied buffer (s .outputs) k ys)) (records-back xs) (due-by f P M s (numbers xs) buffer t T₀ k T h g)
+    held-due g =
+        subst (λ (ys : List Assignment). Due f P M s buffer T (tallied buffer (s .outputs) k ys)) (records-back xs)
+        (due-by f P M s (numbers xs) buffer t T₀ k T h g)
 
     pub held-next : going k ≡ true → (r : Task) (T₁ : List ℕ) → turned r T₁ ≡ turnOf f P M s buffer t T (tallied buffer (s .outputs) k xs)
         → Held r T₁ × (left (s .outputs) r < left (s .outputs) k)
     held-next g r T₁ e =
-        subst (Next f P M s (numbers xs) buffer t T₀ (numbers-whole xs) (left (s .outputs) k)) (sym (e ∙ ap (λ (ys : List Assignment). turnOf f P M s buffer t T (tallied buffer (s .outputs) k ys)) (sym (records-back xs))))
+        subst (Next f P M s (numbers xs) buffer t T₀ (numbers-whole xs) (left (s .outputs) k))
+        (sym (e ∙ ap (λ (ys : List Assignment). turnOf f P M s buffer t T (tallied buffer (s .outputs) k ys)) (sym (records-back xs))))
         (next-by f P M s (numbers xs) buffer t T₀ (numbers-whole xs) k T h g)
 
-    pub held-told : going k ≡ false → (r : ScriptsSet) → r ≡ answerOf k → toldLeft (toldSet r) T ≡ toldSetOut (setScripts (view f P M s) s (whole xs) buffer t T₀)
+    pub held-told : going k ≡ false → (r : ScriptsSet) → r ≡ answerOf k
+        → toldLeft (toldSet r) T ≡ toldSetOut (setScripts (view f P M s) s (whole xs) buffer t T₀)
     held-told g r e =
         ap (λ (a : ScriptsSet). toldLeft (toldSet a) T) e
         ∙ told-by f P M s (numbers xs) buffer t T₀ k T h g

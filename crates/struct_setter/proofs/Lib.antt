@@ -1,3 +1,4 @@
+pub mod Steps
 pub mod Again
 pub mod Asks
 pub mod Numbers

@@ -22,7 +22,9 @@ use Rattle.struct_setter.specs.declared.Task.the-variants.{Check, Serve,
 module _ (buffer : List ℕ) (n : ℕ) (t : Task) (xs : List Assignment) (k : ℕ) where
   pub tally-more : k < length xs → tallied buffer n (noted buffer n t (getD xs k noRecord)) (drop (k + 1) xs) ≡ tallied buffer n t (drop k xs)
   unfolding tallied
-  tally-more h = ap (λ (j : ℕ). tallied buffer n (noted buffer n t (getD xs k noRecord)) (drop j xs)) (add-one k) ∙ sym (ap (tallied buffer n t) (drop-cons xs k noRecord h))
+  tally-more h =
+      ap (λ (j : ℕ). tallied buffer n (noted buffer n t (getD xs k noRecord)) (drop j xs)) (add-one k)
+      ∙ sym (ap (tallied buffer n t) (drop-cons xs k noRecord h))
 
   pub tally-done : length xs ≤ k → t ≡ tallied buffer n t (drop k xs)
   unfolding tallied

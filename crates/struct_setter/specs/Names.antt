@@ -42,6 +42,6 @@ entryBy buffer (Again a) = 1 ∷ scriptIn buffer a
 
 -- the table has room for the entry of output i, and a script for it is a taproot script in the buffer
 pub record Entry (T : List ℕ) (i : ℕ) (buffer : List ℕ) (n : Names) : Type 0 where
-  pub room : i * 35 + 35 ≤ length T
+  pub room : i * scriptEntry + scriptEntry ≤ length T
   pub once : (a : Assignment) → n ≡ Once a → sound buffer a ≡ true
   pub again : (a : Assignment) → n ≡ Again a → sound buffer a ≡ true

@@ -17,7 +17,7 @@ use Rattle.format.specs.declared.Assignment.{Assignment}
 use Rattle.format.specs.declared.ScriptsSet.{ScriptsSet}
 use Rattle.format.specs.declared.ScriptsSet.the-variants.{Refused, Done}
 use Rattle.writer.specs.Writes.{wrote}
-use Rattle.all_maps.specs.Alls.{AllFit, outAt}
+use Rattle.all_maps_fit.specs.Alls.{AllFit, outAt}
 use Rattle.setter.specs.Fills.{stateAfter}
 use Rattle.struct_setter.specs.Names.{namesAfter, servedBy, entryBy, Entry}
 use Rattle.struct_setter.specs.declared.Names.{Names}
@@ -84,7 +84,7 @@ pub data Turned : Type 0 where
 unfoldable pub turnOf : List ℕ → List ℕ → List ℕ → Psbt → List ℕ → State → List ℕ → Task → Turned
 turnOf f P M s buffer t T (Check b) = turned (pick b (serving (s .outputs) 0 t (length T)) wrong) T
 turnOf f P M s buffer t T (Serve i x) = turned (afterServe (s .outputs) t (length T) i (present (outAt f P M s i .script)) x) T
-turnOf f P M s buffer t T (Write i x) = turned (writing (s .outputs) (i + 1) t) (wrote T (i * 35) (entryBy buffer x))
+turnOf f P M s buffer t T (Write i x) = turned (writing (s .outputs) (i + 1) t) (wrote T (i * scriptEntry) (entryBy buffer x))
 turnOf f P M s buffer t T (Over r) = turned (Over r) T
 
 -- what a turn asks: that all maps are fit, and that the output is one and can get its entry

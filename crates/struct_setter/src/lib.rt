@@ -9,10 +9,10 @@ ghost use mathlib.Core.Path.{_≡_};
 ghost use Prim.Native.Nat.{_*_};
 ghost use Rattle.format.specs.Content.{present};
 ghost use Rattle.format.specs.Tables.{view, gather, mapsReported};
-ghost use Rattle.format.specs.Scripts.{whole, setScripts};
+ghost use Rattle.format.specs.Scripts.{scriptEntry, whole, setScripts};
 ghost use Rattle.format.specs.Told.{toldLeft, toldSet, toldSetOut};
 ghost use Rattle.writer.specs.Writes.{wrote};
-ghost use Rattle.all_maps.specs.Alls.{outAt, ruledBy};
+ghost use Rattle.all_maps_fit.specs.Alls.{outAt, ruledBy};
 ghost use Rattle.setter.specs.Rights.{OutputOf};
 ghost use Rattle.struct_setter.specs.Names.{namedBy, namesAfter, servedBy, entryBy, Entry};
 ghost use Rattle.struct_setter.specs.Turns.{begun, going, answerOf, allowedToo, noted, tallied, writing, serving, afterServe, turned, turnOf, Due};
@@ -39,14 +39,8 @@ fn named_by(names: Names, a: Assignment) -> Names
 {
     match names {
         Names::Nobody => Names::Once(a),
-        Names::Once(b) => {
-            let first = b;
-            Names::Again(first)
-        }
-        Names::Again(b) => {
-            let first = b;
-            Names::Again(first)
-        }
+        Names::Once(first) => Names::Again(first),
+        Names::Again(first) => Names::Again(first),
     }
 }
 
@@ -64,10 +58,7 @@ fn names_after(i: u64, names: Names, a: Assignment) -> Names
 fn allowed_too(ok: bool, outputs: u64, buffer: &[u8], a: Assignment) -> bool
     ensures { λ r. ⌜ r ≡ allowedToo ok outputs (now (buffer .entry)) a ⌝ }
 {
-    if ok {
-        return setter::is_allowed(outputs, buffer, a);
-    }
-    false
+    ok && setter::is_allowed(outputs, buffer, a)
 }
 
 // What one record answers.
@@ -75,36 +66,16 @@ fn note(buffer: &[u8], psbt: Psbt, task: Task, a: Assignment) -> Task
     ensures { λ r. ⌜ r ≡ noted (now (buffer .entry)) (psbt .outputs) task a ⌝ }
 {
     match task {
-        Task::Check(ok) => {
-            let before = ok;
-            Task::Check(allowed_too(before, psbt.outputs, buffer, a))
-        }
-        Task::Serve {
-            output: i,
-            names: n,
-        } => {
-            let output = i;
-            let names = n;
-            Task::Serve {
-                output: output,
-                names: names_after(output, names, a),
-            }
-        }
-        Task::Write {
-            output: i,
-            names: n,
-        } => {
-            let output = i;
-            let names = n;
-            Task::Write {
-                output: output,
-                names: names_after(output, names, a),
-            }
-        }
-        Task::Over(r) => {
-            let answer = r;
-            Task::Over(answer)
-        }
+        Task::Check(ok) => Task::Check(allowed_too(ok, psbt.outputs, buffer, a)),
+        Task::Serve { output, names } => Task::Serve {
+            output,
+            names: names_after(output, names, a),
+        },
+        Task::Write { output, names } => Task::Write {
+            output,
+            names: names_after(output, names, a),
+        },
+        Task::Over(answer) => Task::Over(answer),
     }
 }
 
@@ -125,11 +96,8 @@ fn tally(list: &[Assignment], buffer: &[u8], psbt: Psbt, task: Task) -> Task
 fn begin(file: &[u8], pairs: &[u32], maps: &[u32], psbt: Psbt, state: State) -> Task
     ensures { λ r. ⌜ r ≡ begun state (ruledBy (gather (view (now (file .entry)) (now (pairs .entry)) (now (maps .entry)) psbt) 0 (mapsReported psbt))) ⌝ }
 {
-    match all_maps::all_fit(file, pairs, maps, psbt) {
-        Ruled::Refused(e) => {
-            let error = e;
-            Task::Over(ScriptsSet::Refused(error))
-        }
+    match all_maps_fit::all_fit(file, pairs, maps, psbt) {
+        Ruled::Refused(error) => Task::Over(ScriptsSet::Refused(error)),
         Ruled::Passed => {
             if setter::is_settable(state) {
                 return Task::Check(true);
@@ -145,14 +113,8 @@ fn is_going(task: Task) -> bool
 {
     match task {
         Task::Check(_) => true,
-        Task::Serve {
-            output: _,
-            names: _,
-        } => true,
-        Task::Write {
-            output: _,
-            names: _,
-        } => true,
+        Task::Serve { .. } => true,
+        Task::Write { .. } => true,
         Task::Over(_) => false,
     }
 }
@@ -163,18 +125,9 @@ fn answer_of(task: Task) -> ScriptsSet
 {
     match task {
         Task::Check(_) => ScriptsSet::Refused(PsbtError::InvalidOutputScripts),
-        Task::Serve {
-            output: _,
-            names: _,
-        } => ScriptsSet::Refused(PsbtError::InvalidOutputScripts),
-        Task::Write {
-            output: _,
-            names: _,
-        } => ScriptsSet::Refused(PsbtError::InvalidOutputScripts),
-        Task::Over(r) => {
-            let answer = r;
-            answer
-        }
+        Task::Serve { .. } => ScriptsSet::Refused(PsbtError::InvalidOutputScripts),
+        Task::Write { .. } => ScriptsSet::Refused(PsbtError::InvalidOutputScripts),
+        Task::Over(answer) => answer,
     }
 }
 
@@ -230,7 +183,8 @@ fn after_serve(
     names: Names,
 ) -> Task
     requires { ⌜ OutputOf (now file) (now pairs) (now maps) psbt i ⌝ }
-    ensures { λ r. ⌜ r ≡ afterServe (psbt .outputs) state room i (present (outAt (now (file .entry)) (now (pairs .entry)) (now (maps .entry)) psbt i .script)) names ⌝ }
+    ensures { λ r. ⌜ r
+        ≡ afterServe (psbt .outputs) state room i (present (outAt (now (file .entry)) (now (pairs .entry)) (now (maps .entry)) psbt i .script)) names ⌝ }
 {
     let has = setter::has_script(file, pairs, maps, psbt, i);
     if is_served_by(has, names) {
@@ -242,19 +196,17 @@ fn after_serve(
 // Writes the entry of output `i`.
 fn put_named(table: &mut [u8], i: u64, names: Names, buffer: &[u8])
     requires { ⌜ Entry (now table) i (now buffer) names ⌝ }
-    ensures { λ _. ⌜ now (table .exit) ≡ wrote (now (table .entry)) (i * 35) (entryBy (now (buffer .entry)) names) ⌝ }
+    ensures { λ _. ⌜ now (table .exit) ≡ wrote (now (table .entry)) (i * scriptEntry) (entryBy (now (buffer .entry)) names) ⌝ }
 {
     let at = i as usize * scripts::ENTRY;
     match names {
         Names::Nobody => {
             setter::put_zeros(table, at);
         }
-        Names::Once(a) => {
-            let given = a;
+        Names::Once(given) => {
             setter::put_given(table, at, buffer, given);
         }
-        Names::Again(a) => {
-            let given = a;
+        Names::Again(given) => {
             setter::put_given(table, at, buffer, given);
         }
     }
@@ -272,7 +224,8 @@ fn turn(
     task: Task,
 ) -> Task
     requires { ⌜ Due (now file) (now pairs) (now maps) psbt (now buffer) (now scripts) task ⌝ }
-    ensures { λ r. ⌜ turned r (now (scripts .exit)) ≡ turnOf (now (file .entry)) (now (pairs .entry)) (now (maps .entry)) psbt (now (buffer .entry)) state (now (scripts .entry)) task ⌝ }
+    ensures { λ r. ⌜ turned r (now (scripts .exit))
+        ≡ turnOf (now (file .entry)) (now (pairs .entry)) (now (maps .entry)) psbt (now (buffer .entry)) state (now (scripts .entry)) task ⌝ }
 {
     match task {
         Task::Check(ok) => {
@@ -281,27 +234,14 @@ fn turn(
             }
             Task::Over(ScriptsSet::Refused(PsbtError::InvalidOutputScripts))
         }
-        Task::Serve {
-            output: i,
-            names: n,
-        } => {
-            let output = i;
-            let names = n;
+        Task::Serve { output, names } => {
             after_serve(file, pairs, maps, psbt, state, scripts.len(), output, names)
         }
-        Task::Write {
-            output: i,
-            names: n,
-        } => {
-            let output = i;
-            let names = n;
+        Task::Write { output, names } => {
             put_named(scripts, output, names, buffer);
             next_write(psbt.outputs, output + 1, state)
         }
-        Task::Over(r) => {
-            let answer = r;
-            Task::Over(answer)
-        }
+        Task::Over(answer) => Task::Over(answer),
     }
 }
 
@@ -317,7 +257,9 @@ pub fn set_sp_output_scripts(
     state: State,
     scripts: &mut [u8],
 ) -> ScriptsSet
-    ensures { λ r. ⌜ toldLeft (toldSet r) (now (scripts .exit)) ≡ toldSetOut (setScripts (view (now (file .entry)) (now (pairs .entry)) (now (maps .entry)) psbt) psbt (whole (now (list .entry))) (now (buffer .entry)) state (now (scripts .entry))) ⌝ }
+    ensures { λ r. ⌜ toldLeft (toldSet r) (now (scripts .exit))
+        ≡ toldSetOut (setScripts (view (now (file .entry)) (now (pairs .entry)) (now (maps .entry)) psbt) psbt
+        (whole (now (list .entry))) (now (buffer .entry)) state (now (scripts .entry))) ⌝ }
 {
     let mut task = begin(file, pairs, maps, psbt, state);
     while is_going(task) {
@@ -338,7 +280,9 @@ pub fn set_two(
     state: State,
     scripts: &mut [u8],
 ) -> ScriptsSet
-    ensures { λ r. ⌜ toldLeft (toldSet r) (now (scripts .exit)) ≡ toldSetOut (setScripts (view (now (file .entry)) (now (pairs .entry)) (now (maps .entry)) psbt) psbt (whole list) (now (buffer .entry)) state (now (scripts .entry))) ⌝ }
+    ensures { λ r. ⌜ toldLeft (toldSet r) (now (scripts .exit))
+        ≡ toldSetOut (setScripts (view (now (file .entry)) (now (pairs .entry)) (now (maps .entry)) psbt) psbt
+        (whole list) (now (buffer .entry)) state (now (scripts .entry))) ⌝ }
 {
     set_sp_output_scripts(file, pairs, maps, psbt, &list, buffer, state, scripts)
 }

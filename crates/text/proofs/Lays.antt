@@ -106,7 +106,8 @@ pub hex-first : (at : ℕ) (D S : List ℕ) → Hexing at D S at D 0
 hex-first at D S = record { long = refl; is = refl }
 
 module _ (at : ℕ) (D₀ S : List ℕ) (to : ℕ) (D : List ℕ) (j : ℕ) (k : Hexing at D₀ S to D j) where
-  pub hex-more : (to′ : ℕ) (D′ : List ℕ) → j < length S → length D′ ≡ length D → spot to′ D′ ≡ lay (spot to D) (hexByte (getD S j 0)) → Hexing at D₀ S to′ D′ (j + 1)
+  pub hex-more : (to′ : ℕ) (D′ : List ℕ) → j < length S → length D′ ≡ length D → spot to′ D′ ≡ lay (spot to D) (hexByte (getD S j 0))
+      → Hexing at D₀ S to′ D′ (j + 1)
   unfolding hex
   hex-more to′ D′ h l e =
       record {
@@ -173,7 +174,8 @@ digits-are (suc w) n (suc (suc k)) f h =
     let a : n / 10 < 10 ^ suc k = omega (arith, f .1) in
     let two : suc k - 1 ≡ k = omega arith in
     let b : 10 ^ (suc k - 1) ≤ n / 10 = rw two (omega arith) in
-    rw (le-ltb n 10 q) (ap₂ (λ (l : List ℕ) (x : ℕ). l ++ (x ∷ [])) (digits-are w (n / 10) (suc k) (omega arith, a, λ l. b) (omega arith)) (sym (digit-glyph (n % 10))))
+    rw (le-ltb n 10 q)
+    (ap₂ (λ (l : List ℕ) (x : ℕ). l ++ (x ∷ [])) (digits-are w (n / 10) (suc k) (omega arith, a, λ l. b) (omega arith)) (sym (digit-glyph (n % 10))))
 
 pub spelled : (s t : Spot) (n k : ℕ) (D : List ℕ) → Fewest 10 1 n k → Fits w64 n → take k D ≡ digits 10 k n → t ≡ lay s (take k D) → t ≡ lay s (decimal n)
 unfolding decimal

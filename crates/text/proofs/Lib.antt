@@ -1,4 +1,3 @@
 pub mod Lays
 pub mod Chains
-pub mod Rooms
 pub mod Sizes

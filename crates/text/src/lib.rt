@@ -5,6 +5,12 @@ ghost use Rattle.text.specs.Spots.{spot, layByte, lay};
 ghost use Rattle.text.specs.Spelled.{digit as Spelled·digit, hexByte, hex, hexOrDash, decimal, signedDecimal};
 use writer::bits_of;
 
+// The most digits of a number of 64 bits.
+const DIGITS: usize = 20;
+
+// One more than the greatest number of 32 bits.
+const WRAP: u64 = 0x1_0000_0000;
+
 // Puts a byte at `at` and answers the place behind it. Where there is no room, nothing is put.
 pub fn put_byte(out: &mut [u8], at: usize, byte: u8) -> usize
     ensures { λ r. ⌜ spot r (now (out .exit)) ≡ layByte (spot at (now (out .entry))) byte ⌝ }
@@ -34,7 +40,7 @@ fn digit(d: u8) -> u8
     requires { ⌜ d < 16 ⌝ }
     ensures { λ r. ⌜ r ≡ Spelled·digit d ⌝ }
 {
-    if d < 10 { 48 + d } else { 87 + d }
+    if d < 10 { b'0' + d } else { b'a' - 10 + d }
 }
 
 // A byte in two hex digits, the higher first.
@@ -72,7 +78,7 @@ pub fn put_hex_or_dash(out: &mut [u8], at: usize, bytes: &[u8]) -> usize
 pub fn put_decimal(out: &mut [u8], at: usize, n: u64) -> usize
     ensures { λ r. ⌜ spot r (now (out .exit)) ≡ lay (spot at (now (out .entry))) (decimal n) ⌝ }
 {
-    let mut digits = [0u8; 20];
+    let mut digits = [0u8; DIGITS];
     let k = io::decimal(n, &mut digits);
     put(out, at, &digits[..k])
 }
@@ -84,7 +90,7 @@ pub fn put_signed(out: &mut [u8], at: usize, n: i32) -> usize
     let bits = bits_of(n);
     if n < 0 {
         let to = put_byte(out, at, b'-');
-        return put_decimal(out, to, 0x1_0000_0000 - bits);
+        return put_decimal(out, to, WRAP - bits);
     }
     put_decimal(out, at, bits)
 }

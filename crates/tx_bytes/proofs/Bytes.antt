@@ -18,7 +18,7 @@ use Rattle.format.specs.declared.Psbt.{Psbt}
 use Rattle.format.specs.declared.State.{State}
 use Rattle.format.proofs.Numbers.{All, length-bytesOf}
 use Rattle.format.proofs.Tests.{pick-by, never-true, and-left, and-right}
-use Rattle.all_maps.specs.Alls.{inAt, outAt, from, insOf}
+use Rattle.all_maps_fit.specs.Alls.{inAt, outAt, from, insOf}
 use Rattle.writer.specs.Writes.{wrote, sizeLength}
 use Rattle.writer.proofs.Writes.{wrote-append, wrote-then, wrote-none}
 use Rattle.tx_size.specs.Lengths.{isThere, scripted, scriptBytes, inputLength, outLength, outsLength, capped, measureBy, outMeasure, outsMeasure, fixedLength}
@@ -86,7 +86,9 @@ module _ (x : In) (k : SizedIn x) (h : inputOk x ≡ true) where
 
   sequence-long : length (bytesIn (orFinal (x .sequence))) ≡ 4
   unfolding inputOk
-  sequence-long = there-long 4 (orFinal (x .sequence)) (final-to (x .sequence) (k .sequence=)) (and-right (isThere (x .index)) _ (and-right (isThere (x .txid)) _ h))
+  sequence-long =
+      there-long 4 (orFinal (x .sequence)) (final-to (x .sequence) (k .sequence=))
+      (and-right (isThere (x .index)) _ (and-right (isThere (x .txid)) _ h))
 
   input-long : length (inputBytes x) ≡ inputLength
   unfolding inputBytes
@@ -159,9 +161,11 @@ put-outputs (o ∷ os) n k a h B at =
     let t : isThere (o .amount) ≡ true = measure-is (o .amount) (o .script) w q .1 in
     let j = out-long (o .amount) (a .0 .amount=) t (scriptBytes (o .script)) in
     rw (put-output (o .amount) (a .0 .amount=) t (scriptBytes (o .script)) B at)
-    (put-outputs os (capped (n + w)) k (a .1) r (wrote B at (outBytes (o .amount) (scriptBytes (o .script)))) (at + outLength (length (scriptBytes (o .script))))
+    (put-outputs os (capped (n + w)) k (a .1) r (wrote B at (outBytes (o .amount) (scriptBytes (o .script))))
+    (at + outLength (length (scriptBytes (o .script))))
     ∙ ap₂ put (rw length-append (omega (arith, j)))
-    (wrote-then B _ _ at (at + outLength (length (scriptBytes (o .script)))) (outBytes (o .amount) (scriptBytes (o .script))) (outsBytes os) refl (omega (arith, j)) refl)))
+    (wrote-then B _ _ at (at + outLength (length (scriptBytes (o .script)))) (outBytes (o .amount) (scriptBytes (o .script)))
+    (outsBytes os) refl (omega (arith, j)) refl)))
 
 -- the whole transaction has the length that was measured, and is written as its bytes are
 module _ (s : Psbt) (ins : List In) (outs : List Out) (n m k : ℕ) (a : All SizedIn ins) (b : All SizedOut outs)
@@ -176,8 +180,10 @@ module _ (s : Psbt) (ins : List In) (outs : List Out) (n m k : ℕ) (a : All Siz
   unfolding putRest putLock sizeLength
   put-rest B at =
       ap (putLock n) (put-outputs outs m k b q (wrote B at (shortest (length outs))) (at + length (shortest (length outs))))
-      ∙ ap (λ (l : List ℕ). wrote l (at + length (shortest (length outs)) + length (outsBytes outs)) (bytesOf 4 n)) (wrote-append B at (shortest (length outs)) (outsBytes outs))
-      ∙ wrote-then B _ _ at (at + length (shortest (length outs)) + length (outsBytes outs)) (shortest (length outs) ++ outsBytes outs) (bytesOf 4 n) refl (rw length-append (omega arith)) refl
+      ∙ ap (λ (l : List ℕ). wrote l (at + length (shortest (length outs)) + length (outsBytes outs)) (bytesOf 4 n))
+      (wrote-append B at (shortest (length outs)) (outsBytes outs))
+      ∙ wrote-then B _ _ at (at + length (shortest (length outs)) + length (outsBytes outs))
+      (shortest (length outs) ++ outsBytes outs) (bytesOf 4 n) refl (rw length-append (omega arith)) refl
       ∙ ap (wrote B at) (append-assoc (shortest (length outs)) (outsBytes outs) (bytesOf 4 n))
 
   pub put-tx : (B : List ℕ) → putTx B s ins outs n ≡ wrote B 0 (txBytes s ins outs n)
@@ -191,5 +197,6 @@ module _ (s : Psbt) (ins : List In) (outs : List Out) (n m k : ℕ) (a : All Siz
       = wrote-then B _ _ 0 (4 + length c) (v ++ c) (inputsBytes ins) front (rw length-append (omega (arith, l))) refl in
       ap (putRest outs n) (put-inputs ins a h (wrote (wrote B 0 v) 4 c) (4 + length c))
       ∙ put-rest (wrote (wrote (wrote B 0 v) 4 c) (4 + length c) (inputsBytes ins)) (4 + length c + length (inputsBytes ins))
-      ∙ wrote-then B _ _ 0 (4 + length c + length (inputsBytes ins)) ((v ++ c) ++ inputsBytes ins) _ body (rw (length-append, length-append) (omega (arith, l))) refl
+      ∙ wrote-then B _ _ 0 (4 + length c + length (inputsBytes ins)) ((v ++ c) ++ inputsBytes ins) _
+      body (rw (length-append, length-append) (omega (arith, l))) refl
       ∙ ap (wrote B 0) (append-assoc (v ++ c) (inputsBytes ins) _)

@@ -14,18 +14,16 @@ use Rattle.format.specs.declared.MapEntry.{MapEntry}
 use Rattle.format.specs.declared.Psbt.{Psbt}
 use Rattle.format.specs.declared.Looked.the-variants as K
 use Rattle.entries.specs.Words.{mapAt}
-use Rattle.entries.proofs.Tables.{map-count}
-use Rattle.all_maps.specs.Alls.{Usable, AllFit, pairsOf, inAt, from, insOf}
-use Rattle.all_maps.specs.Places.{sizedIn, inputIn}
-use Rattle.all_maps.specs.declared.SizedAt.{SizedAt}
-use Rattle.all_maps.specs.declared.SizedAt.the-variants as S
-use Rattle.all_maps.specs.declared.InputAt.{InputAt}
-use Rattle.all_maps.proofs.Gathers.{input-listed, input-usable}
+use Rattle.all_maps_fit.specs.Alls.{Usable, pairsOf, inAt, from, insOf}
+use Rattle.all_maps_fit.specs.Places.{sizedIn, inputIn}
+use Rattle.all_maps_fit.specs.declared.SizedAt.{SizedAt}
+use Rattle.all_maps_fit.specs.declared.SizedAt.the-variants as S
+use Rattle.all_maps_fit.specs.declared.InputAt.{InputAt}
+use Rattle.all_maps_fit.proofs.Runs.{rest-none, rest-one, rest-all}
 use Rattle.writer.specs.Writes.{wrote}
 use Rattle.writer.proofs.Writes.{wrote-none, length-wrote}
 use Rattle.tx_size.specs.Lengths.{inputLength}
 use Rattle.tx_size.specs.Places.{pairsIn}
-use Rattle.tx_size.proofs.Outputs.{rest-none, rest-one, rest-all}
 use Rattle.tx_bytes.specs.Bytes.{bytesIn}
 use Rattle.tx_bytes.specs.Puts.{put, putInput, putInputs}
 use Rattle.tx_bytes.specs.Rooms.{inIn, InputRoom, InputsRoom}
@@ -59,7 +57,9 @@ module _ (f : List ℕ) (x : SizedAt) (at : ℕ) (B B₁ : List ℕ) where
 
   pub sequence-there : (s : ℕ) → x ≡ S.At s → B₁ ≡ wrote B at (bytesIn (sizedIn 4 f x)) → B₁ ≡ wrote B at (bytesIn (orFinal (sizedIn 4 f x)))
   unfolding orFinal sizedIn
-  sequence-there s h q = q ∙ ap (λ (y : SizedAt). wrote B at (bytesIn (sizedIn 4 f y))) h ∙ sym (ap (λ (y : SizedAt). wrote B at (bytesIn (orFinal (sizedIn 4 f y)))) h)
+  sequence-there s h q =
+      q ∙ ap (λ (y : SizedAt). wrote B at (bytesIn (sizedIn 4 f y))) h
+      ∙ sym (ap (λ (y : SizedAt). wrote B at (bytesIn (orFinal (sizedIn 4 f y)))) h)
 
 pub sequence-misfit : (f : List ℕ) (x : SizedAt) (at : ℕ) (B : List ℕ) → x ≡ S.Misfit → B ≡ wrote B at (bytesIn (orFinal (sizedIn 4 f x)))
 unfolding bytesIn orFinal sizedIn
@@ -82,11 +82,6 @@ input-fields f P m x e at B B₁ B₂ B₃ B₄ p q r t = t ∙ rw (r, q, p) (ap
 pub length-input : (B : List ℕ) (at : ℕ) (x : In) → length (putInput B at x) ≡ length B
 unfolding putInput
 length-input B at x = rw (length-wrote, length-wrote, length-wrote, length-wrote)
-
--- where all maps are fit, the map of an input is in its table
-module _ (f P M : List ℕ) (s : Psbt) (i : ℕ) (k : AllFit f P M s) (h : i < s .inputs) where
-  pub input-number : length M < 2 ^ 64 → Fits w64 (1 + i)
-  input-number g = record { fits = omega (arith, input-listed f P M s k i h, map-count M) }
 
 -- writing the inputs from number i on, from here, gives what writing all gives
 pub record Putting (f P M : List ℕ) (s : Psbt) (B₀ : List ℕ) (at : ℕ) (B : List ℕ) (i to : ℕ) : Type 0 where
@@ -121,4 +116,4 @@ module _ (f P M : List ℕ) (s : Psbt) (B₀ : List ℕ) (at : ℕ) (B : List �
               ∙ sym (ap (putInputs B to) (rest-one (inAt f P M) i (s .inputs) h)) ∙ k .is;
         }
 
-pub ruleset puttings = (put-first, put-done, put-room, put-to, put-more, input-listed, input-usable, input-number)
+pub ruleset puttings = (put-first, put-done, put-room, put-to, put-more)

@@ -19,9 +19,9 @@ use Rattle.format.specs.declared.Looked.the-variants as K
 use Rattle.wire.proofs.Sizes.{part-rest}
 use Rattle.entries.specs.Words.{mapAt}
 use Rattle.scripts.specs.Tables.{entryAt}
-use Rattle.all_maps.specs.Alls.{Usable, from}
-use Rattle.all_maps.specs.Places.{sizedIn}
-use Rattle.all_maps.specs.declared.SizedAt.{SizedAt}
+use Rattle.all_maps_fit.specs.Alls.{Usable, from}
+use Rattle.all_maps_fit.specs.Places.{sizedIn}
+use Rattle.all_maps_fit.specs.declared.SizedAt.{SizedAt}
 use Rattle.writer.specs.Writes.{wrote, sizeLength}
 use Rattle.writer.proofs.Writes.{length-wrote, wrote-long, wrote-none}
 use Rattle.tx_size.specs.Lengths.{scripted, scriptBytes, outLength, outsLength}
@@ -29,7 +29,8 @@ use Rattle.tx_size.specs.Places.{pairsIn, outIn, outNow, outsNow, scriptIn, scr
 use Rattle.tx_size.specs.declared.ScriptAt.{ScriptAt}
 use Rattle.tx_size.specs.declared.ScriptAt.the-variants.{Missing, InFile, InTable}
 use Rattle.tx_size.proofs.Scripts.{in-none, in-file, len-file, in-table, len-table}
-use Rattle.tx_size.proofs.Outputs.{rest-none, rest-one, rest-all, out-at}
+use Rattle.all_maps_fit.proofs.Runs.{rest-none, rest-one, rest-all}
+use Rattle.tx_size.proofs.Outputs.{out-at}
 use Rattle.tx_bytes.specs.Bytes.{bytesIn}
 use Rattle.tx_bytes.specs.Puts.{put, putOutput, putOne, putOutputs}
 use Rattle.tx_bytes.specs.Rooms.{OutputRoom, OutputsRoom}
@@ -61,7 +62,8 @@ module _ (f e : List ℕ) (x : ScriptAt) where
 pub ruleset script-puts = (put-missing, room-file, put-file, put-none, room-table, put-table)
 
 -- an output written
-module _ (f P : List ℕ) (m : MapEntry) (e : List ℕ) (at n : ℕ) (r : OutputRoom f P m e at n) (y : ScriptAt) (ey : scriptIn f e y ≡ (scripted (outIn f P m) e) .script)
+module _ (f P : List ℕ) (m : MapEntry) (e : List ℕ) (at n : ℕ) (r : OutputRoom f P m e at n) (y : ScriptAt)
+    (ey : scriptIn f e y ≡ (scripted (outIn f P m) e) .script)
     (l : ℕ) (el : l ≡ scriptLength f e y) where
   length-is : l ≡ length (scriptBytes ((scripted (outIn f P m) e) .script))
   unfolding scriptLength
@@ -81,7 +83,8 @@ module _ (f P : List ℕ) (m : MapEntry) (e : List ℕ) (at n : ℕ) (r : Output
     pub to-end : n < 2 ^ 64 → Fits w64 (at + 8 + k + l)
     to-end g = record { fits = omega (arith, room-is) }
 
-module _ (f P : List ℕ) (m : MapEntry) (e : List ℕ) (at : ℕ) (B : List ℕ) (r : OutputRoom f P m e at (length B)) (y : ScriptAt) (ey : scriptIn f e y ≡ (scripted (outIn f P m) e) .script)
+module _ (f P : List ℕ) (m : MapEntry) (e : List ℕ) (at : ℕ) (B : List ℕ) (r : OutputRoom f P m e at (length B)) (y : ScriptAt)
+    (ey : scriptIn f e y ≡ (scripted (outIn f P m) e) .script)
     (l : ℕ) (el : l ≡ scriptLength f e y) (x : SizedAt) (B₁ : List ℕ) (e₁ : B₁ ≡ wrote B at (bytesIn (sizedIn 8 f x))) where
   pub room-size : at + 8 + sizeLength l ≤ length B₁
   room-size = omega (arith, room-is f P m e at (length B) r y ey l el, wrote-long B B₁ at (bytesIn (sizedIn 8 f x)) e₁)
@@ -96,7 +99,8 @@ module _ (f P : List ℕ) (m : MapEntry) (e : List ℕ) (at : ℕ) (B : List ℕ
     unfolding putOne outLength putOutput scripted outIn outOf
     output-is ex B₃ e₃ =
         let p : at + 8 + k + l ≡ at + (8 + (sizeLength l + l)) = omega (arith, ek) in
-        let c : B₃ ≡ wrote (wrote (wrote B at (bytesIn (sizedIn 8 f x))) (at + 8) (shortest l)) (at + 8 + sizeLength l) (scriptBytes (scriptIn f e y)) = e₃ ∙ rw (e₂, e₁, ek) in
+        let c : B₃ ≡ wrote (wrote (wrote B at (bytesIn (sizedIn 8 f x))) (at + 8) (shortest l)) (at + 8 + sizeLength l) (scriptBytes (scriptIn f e y))
+        = e₃ ∙ rw (e₂, e₁, ek) in
         ap₂ put p c ∙ rw (length-is f P m e at (length B) r y ey l el, ex, ey)
 
 pub ruleset output-puts = (room-8, to-script, to-end, room-size, room-script, output-is)
@@ -111,7 +115,8 @@ pub record Putting (f P M : List ℕ) (s : Psbt) (t : State) (T B₀ : List ℕ)
   pub long : length B ≡ length B₀
   pub is : putOutputs B to (from (outNow f P M s t T) i (s .outputs - i)) ≡ putOutputs B₀ at (outsNow f P M s t T)
 
-pub put-first : (f P M : List ℕ) (s : Psbt) (t : State) (T : List ℕ) (at : ℕ) (B : List ℕ) → OutputsRoom f P M s t T at (length B) → Putting f P M s t T B at B 0 at
+pub put-first : (f P M : List ℕ) (s : Psbt) (t : State) (T : List ℕ) (at : ℕ) (B : List ℕ) → OutputsRoom f P M s t T at (length B)
+    → Putting f P M s t T B at B 0 at
 unfolding outsNow
 put-first f P M s t T at B k =
     let q = rest-all (outNow f P M s t T) (s .outputs) in
@@ -124,9 +129,12 @@ module _ (f P M : List ℕ) (s : Psbt) (t : State) (T B₀ : List ℕ) (at : ℕ
 
   module _ (h : i < s .outputs) (m : MapEntry) (em : m ≡ mapAt M (1 + s .inputs + i)) (e : List ℕ) (ee : e ≡ entryAt (setSoFar t T) i) where
     one : from (outNow f P M s t T) i (s .outputs - i) ≡ scripted (outIn f P m) e ∷ from (outNow f P M s t T) (i + 1) (s .outputs - (i + 1))
-    one = rest-one (outNow f P M s t T) i (s .outputs) h ∙ ap (λ (o : Out). o ∷ from (outNow f P M s t T) (i + 1) (s .outputs - (i + 1))) (out-at f P M s t T i m e em ee)
+    one =
+        rest-one (outNow f P M s t T) i (s .outputs) h
+        ∙ ap (λ (o : Out). o ∷ from (outNow f P M s t T) (i + 1) (s .outputs - (i + 1))) (out-at f P M s t T i m e em ee)
 
-    one-room : to + (outLength (length (scriptBytes ((scripted (outIn f P m) e) .script))) + outsLength (from (outNow f P M s t T) (i + 1) (s .outputs - (i + 1)))) ≤ length B
+    one-room : to + (outLength (length (scriptBytes ((scripted (outIn f P m) e) .script)))
+        + outsLength (from (outNow f P M s t T) (i + 1) (s .outputs - (i + 1)))) ≤ length B
     unfolding outsLength
     one-room = rw one at (k .room)
 

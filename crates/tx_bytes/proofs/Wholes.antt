@@ -16,8 +16,8 @@ use Rattle.format.specs.Locks.{In}
 use Rattle.format.specs.Scripts.{Out}
 use Rattle.format.specs.declared.Psbt.{Psbt}
 use Rattle.format.specs.declared.State.{State}
-use Rattle.all_maps.specs.Alls.{inAt, insOf}
-use Rattle.all_maps.proofs.Runs.{from-length}
+use Rattle.all_maps_fit.specs.Alls.{inAt, insOf}
+use Rattle.all_maps_fit.proofs.Runs.{from-length}
 use Rattle.writer.specs.Writes.{wrote, sizeLength}
 use Rattle.writer.proofs.Writes.{length-wrote, wrote-long}
 use Rattle.tx_size.specs.Lengths.{inputLength, outsLength, fixedLength}
@@ -41,7 +41,8 @@ ins-place : (xs : List In) (B : List ℕ) (at a : ℕ) (B₁ : List ℕ) → put
 unfolding putInputs
 ins-place [] B at a B₁ h = let x : a ≡ at = cc in let y : B₁ ≡ B = cc in (omega arith, ap length y)
 ins-place (x ∷ xs) B at a B₁ h =
-    let i : (a ≡ at + inputLength + length xs * inputLength) × (length B₁ ≡ length (putInput B at x)) = ins-place xs (putInput B at x) (at + inputLength) a B₁ h in
+    let i : (a ≡ at + inputLength + length xs * inputLength) × (length B₁ ≡ length (putInput B at x))
+    = ins-place xs (putInput B at x) (at + inputLength) a B₁ h in
     (omega (arith, i .0), i .1 ∙ length-input B at x)
 
 outs-place : (os : List Out) (B : List ℕ) (at a : ℕ) (B₁ : List ℕ) → put a B₁ ≡ putOutputs B at os → (a ≡ at + outsLength os) × (length B₁ ≡ length B)
@@ -52,7 +53,8 @@ outs-place (o ∷ os) B at a B₁ h =
     (omega (arith, i .0), i .1 ∙ length-output B at (o .amount) _)
 
 -- version, count and inputs
-pub version-is : (s : Psbt) (v : ℕ) (B B₁ : List ℕ) → SFits w32 (s .«tx_version») → v ≡ unsigned (toZ w32 (ofZ w32 (s .«tx_version»))) → B₁ ≡ wrote B 0 (bytesOf 4 v)
+pub version-is : (s : Psbt) (v : ℕ) (B B₁ : List ℕ) → SFits w32 (s .«tx_version») → v ≡ unsigned (toZ w32 (ofZ w32 (s .«tx_version»)))
+    → B₁ ≡ wrote B 0 (bytesOf 4 v)
     → B₁ ≡ wrote B 0 (bytesOf 4 (unsigned (s .«tx_version»)))
 version-is s v B B₁ f e q = q ∙ ap (λ (k : ℕ). wrote B 0 (bytesOf 4 k)) (e ∙ ap unsigned (toZ-ofZ f))
 
@@ -63,7 +65,8 @@ unfolding putFront
 front-is f P M s B B₁ e₁ B₂ e₂ a to ea et r B₃ q = q ∙ rw (e₂, e₁, et, ea, ins-count f P M s)
 
 -- count, outputs and lock time
-module _ (f P M : List ℕ) (s : Psbt) (t : State) (T : List ℕ) (at : ℕ) (B B₁ : List ℕ) (e₁ : B₁ ≡ wrote B at (shortest (s .outputs))) (b to : ℕ) (eb : b ≡ sizeLength (s .outputs))
+module _ (f P M : List ℕ) (s : Psbt) (t : State) (T : List ℕ) (at : ℕ) (B B₁ : List ℕ) (e₁ : B₁ ≡ wrote B at (shortest (s .outputs))) (b to : ℕ)
+    (eb : b ≡ sizeLength (s .outputs))
     (et : to ≡ at + b) (d : ℕ) (B₂ : List ℕ) (e₂ : put d B₂ ≡ putOutputs B₁ to (outsNow f P M s t T)) where
   pub rest-lock : RestRoom f P M s t T at (length B) → (k : ℕ) → leb k 4 ≡ true → d + k ≤ length B₂
   rest-lock r k few =
@@ -73,7 +76,8 @@ module _ (f P M : List ℕ) (s : Psbt) (t : State) (T : List ℕ) (at : ℕ) (B 
   pub rest-is : (n : ℕ) (B₃ : List ℕ) → B₃ ≡ wrote B₂ d (bytesOf 4 n) → B₃ ≡ putRest (outsNow f P M s t T) n (put at B)
   unfolding putRest putLock
   rest-is n B₃ q =
-      let w : put d B₂ ≡ putOutputs (wrote B at (shortest (length (outsNow f P M s t T)))) (at + sizeLength (length (outsNow f P M s t T))) (outsNow f P M s t T)
+      let w : put d B₂ ≡ putOutputs (wrote B at (shortest (length (outsNow f P M s t T))))
+      (at + sizeLength (length (outsNow f P M s t T))) (outsNow f P M s t T)
       = e₂ ∙ rw (e₁, et, eb, outs-count f P M s t T) in
       q ∙ ap (putLock n) w
 

@@ -7,7 +7,7 @@ use Rattle.format.specs.declared.MapEntry.{MapEntry}
 use Rattle.format.specs.declared.Psbt.{Psbt}
 use Rattle.format.specs.declared.State.{State}
 use Rattle.writer.specs.Writes.{sizeLength}
-use Rattle.all_maps.specs.Alls.{Usable, AllFit}
+use Rattle.all_maps_fit.specs.Alls.{Usable, AllFit}
 use Rattle.tx_size.specs.Lengths.{scripted, scriptBytes, inputLength, outLength, outsLength, fixedLength}
 use Rattle.tx_size.specs.Places.{pairsIn, outIn, outsNow}
 

@@ -1,11 +1,11 @@
 // Writes the bytes of an unsigned transaction into a lent buffer that has the room for them.
-use all_maps::SizedAt;
+use all_maps_fit::SizedAt;
 use format::Looked;
 use format::MapEntry;
 use format::PSBT_OUT_AMOUNT;
 use format::Psbt;
 use format::State;
-use tx_size::INPUT;
+use tx_size::INPUT_LEN;
 use tx_size::ScriptAt;
 ghost use mathlib.Core.Path.{_≡_};
 ghost use Prim.Native.Nat.{_+_, _≤_};
@@ -13,13 +13,16 @@ ghost use lib.ListN.{length};
 ghost use Rattle.format.specs.Numbers.{bytesOf, unsigned};
 ghost use Rattle.format.specs.Transaction.{orFinal};
 ghost use Rattle.writer.specs.Writes.{wrote};
-ghost use Rattle.all_maps.specs.Alls.{insOf};
-ghost use Rattle.all_maps.specs.Places.{sizedIn};
+ghost use Rattle.all_maps_fit.specs.Alls.{insOf};
+ghost use Rattle.all_maps_fit.specs.Places.{sizedIn};
 ghost use Rattle.tx_size.specs.Lengths.{scripted, scriptBytes};
 ghost use Rattle.tx_size.specs.Places.{outIn, outsNow, scriptIn, scriptLength};
 ghost use Rattle.tx_bytes.specs.Bytes.{bytesIn};
 ghost use Rattle.tx_bytes.specs.Puts.{put, putInput, putInputs, putOne, putOutputs, putRest, putFront, putTx};
 ghost use Rattle.tx_bytes.specs.Rooms.{inIn, InputRoom, InputsRoom, OutputRoom, OutputsRoom, FrontRoom, RestRoom, TxRoom};
+
+// The sequence of an input that has none.
+const FINAL: u64 = 0xffff_ffff;
 
 // The `width` bytes of a field that is there.
 fn put_at(file: &[u8], x: SizedAt, width: usize, out: &mut [u8], at: usize)
@@ -43,7 +46,7 @@ fn put_sequence(file: &[u8], x: SizedAt, out: &mut [u8], at: usize)
 {
     match x {
         SizedAt::Missing => {
-            writer::put_le(out, at, 0xffff_ffff, 4);
+            writer::put_le(out, at, FINAL, 4);
         }
         SizedAt::Misfit => {}
         SizedAt::At { start: _ } => {
@@ -57,7 +60,7 @@ fn put_input(file: &[u8], pairs: &[u32], m: MapEntry, out: &mut [u8], at: usize)
     requires { ⌜ InputRoom (now file) (now pairs) m at (length (now out)) ⌝ }
     ensures { λ _. ⌜ now (out .exit) ≡ putInput (now (out .entry)) at (inIn (now (file .entry)) (now (pairs .entry)) m) ⌝ }
 {
-    let places = all_maps::input_at(file, pairs, m);
+    let places = all_maps_fit::input_at(file, pairs, m);
     let txid = places.txid;
     let index = places.index;
     let sequence = places.sequence;
@@ -85,9 +88,9 @@ fn put_inputs(
     let mut i: u64 = 0;
     let mut to = at;
     while i < psbt.inputs {
-        let m = entries::map_entry(maps, (1 + i) as usize);
+        let m = all_maps_fit::input_entry(maps, i);
         put_input(file, pairs, m, out, to);
-        to = to + INPUT as usize;
+        to = to + INPUT_LEN as usize;
         i = i + 1;
     }
     to
@@ -123,9 +126,10 @@ fn put_output(
     at: usize,
 ) -> usize
     requires { ⌜ OutputRoom (now file) (now pairs) m (now entry) at (length (now out)) ⌝ }
-    ensures { λ r. ⌜ put r (now (out .exit)) ≡ putOne (now (out .entry)) at (scripted (outIn (now (file .entry)) (now (pairs .entry)) m) (now (entry .entry))) ⌝ }
+    ensures { λ r. ⌜ put r (now (out .exit)) ≡ putOne (now (out .entry)) at
+        (scripted (outIn (now (file .entry)) (now (pairs .entry)) m) (now (entry .entry))) ⌝ }
 {
-    let amount = all_maps::sized_field(file, pairs, m, PSBT_OUT_AMOUNT, 8);
+    let amount = all_maps_fit::sized_field(file, pairs, m, PSBT_OUT_AMOUNT, 8);
     let script = tx_size::script_at(file, pairs, m, entry);
     let n = tx_size::script_len(file, entry, script);
     let to_size = at + 8;
@@ -149,12 +153,13 @@ fn put_outputs(
     at: usize,
 ) -> usize
     requires { ⌜ OutputsRoom (now file) (now pairs) (now maps) psbt state (now scripts) at (length (now out)) ⌝ }
-    ensures { λ r. ⌜ put r (now (out .exit)) ≡ putOutputs (now (out .entry)) at (outsNow (now (file .entry)) (now (pairs .entry)) (now (maps .entry)) psbt state (now (scripts .entry))) ⌝ }
+    ensures { λ r. ⌜ put r (now (out .exit)) ≡ putOutputs (now (out .entry)) at
+        (outsNow (now (file .entry)) (now (pairs .entry)) (now (maps .entry)) psbt state (now (scripts .entry))) ⌝ }
 {
     let mut i: u64 = 0;
     let mut to = at;
     while i < psbt.outputs {
-        let m = entries::map_entry(maps, (1 + psbt.inputs + i) as usize);
+        let m = all_maps_fit::output_entry(maps, psbt, i);
         let entry = tx_size::set_entry(scripts, state, i);
         to = put_output(file, pairs, m, entry, out, to);
         i = i + 1;
@@ -194,7 +199,8 @@ fn put_rest(
     at: usize,
 )
     requires { ⌜ RestRoom (now file) (now pairs) (now maps) psbt state (now scripts) at (length (now out)) ⌝ }
-    ensures { λ _. ⌜ now (out .exit) ≡ putRest (outsNow (now (file .entry)) (now (pairs .entry)) (now (maps .entry)) psbt state (now (scripts .entry))) lock (put at (now (out .entry))) ⌝ }
+    ensures { λ _. ⌜ now (out .exit) ≡ putRest
+        (outsNow (now (file .entry)) (now (pairs .entry)) (now (maps .entry)) psbt state (now (scripts .entry))) lock (put at (now (out .entry))) ⌝ }
 {
     let to = at + writer::size_len(psbt.outputs);
     writer::put_size(out, at, psbt.outputs);
@@ -214,7 +220,8 @@ pub fn put_tx(
     out: &mut [u8],
 )
     requires { ⌜ TxRoom (now file) (now pairs) (now maps) psbt state (now scripts) (length (now out)) ⌝ }
-    ensures { λ _. ⌜ now (out .exit) ≡ putTx (now (out .entry)) psbt (insOf (now (file .entry)) (now (pairs .entry)) (now (maps .entry)) psbt) (outsNow (now (file .entry)) (now (pairs .entry)) (now (maps .entry)) psbt state (now (scripts .entry))) lock ⌝ }
+    ensures { λ _. ⌜ now (out .exit) ≡ putTx (now (out .entry)) psbt (insOf (now (file .entry)) (now (pairs .entry)) (now (maps .entry)) psbt)
+        (outsNow (now (file .entry)) (now (pairs .entry)) (now (maps .entry)) psbt state (now (scripts .entry))) lock ⌝ }
 {
     let at = put_front(file, pairs, maps, psbt, out);
     put_rest(file, pairs, maps, psbt, state, scripts, lock, out, at);

@@ -17,7 +17,8 @@ use Rattle.format.specs.declared.PsbtError.the-variants.{BadValue, MissingOutpu
 use Rattle.format.proofs.Tests.{pick-by}
 use Rattle.writer.specs.Writes.{sizeLength}
 use Rattle.writer.proofs.Puts.{size-most}
-use Rattle.tx_size.specs.Lengths.{isThere, scriptBytes, inputLength, outLength, outsLength, greatest, capped, measureBy, outMeasure, moreBy, outsMeasure, fixedLength}
+use Rattle.tx_size.specs.Lengths.{isThere, scriptBytes, inputLength, outLength, outsLength, greatest}
+use Rattle.tx_size.specs.Lengths.{capped, measureBy, outMeasure, moreBy, outsMeasure, fixedLength}
 use Rattle.tx_size.specs.declared.Measure.{Measure}
 use Rattle.tx_size.specs.declared.Measure.the-variants.{Refused, Takes}
 

@@ -1,12 +1,8 @@
 -- Laws of measuring outputs and the whole, one for each way through the functions.
 use mathlib.Core.Path.{_≡_, refl, sym, _∙_, ap, ap₂}
 use mathlib.Core.Bool.{Bool, true, false}
-use mathlib.Core.List.{List, [], _∷_}
-use Prim.Native.Nat.{ℕ, _+_, _-_, _^_, _≤_, _<_}
-use native.Mathlib.Omega.{arith}
-use lib.ListN.{length}
-use mir.Syntax.{w64}
-use mir.Val.{Fits}
+use mathlib.Core.List.{List}
+use Prim.Native.Nat.{ℕ, _+_, _-_, _≤_, _<_}
 use Rattle.format.specs.Content.{Found, field}
 use Rattle.format.specs.Locks.{Sized, missing, misfit, is, sizedTo}
 use Rattle.format.specs.Scripts.{Out, outOf}
@@ -18,14 +14,12 @@ use Rattle.format.specs.declared.Psbt.{Psbt}
 use Rattle.format.specs.declared.State.{State}
 use Rattle.format.proofs.Tests.{never-true}
 use Rattle.entries.specs.Words.{mapAt}
-use Rattle.entries.proofs.Tables.{map-count}
 use Rattle.scripts.specs.Tables.{entryAt}
-use Rattle.all_maps.specs.Alls.{AllFit, pairsOf, outAt, from}
-use Rattle.all_maps.specs.Places.{sizedIn}
-use Rattle.all_maps.specs.declared.SizedAt.{SizedAt}
-use Rattle.all_maps.specs.declared.SizedAt.the-variants as S
-use Rattle.all_maps.proofs.Runs.{from-none, from-one}
-use Rattle.all_maps.proofs.Gathers.{output-listed, output-usable}
+use Rattle.all_maps_fit.specs.Alls.{pairsOf, outAt, from}
+use Rattle.all_maps_fit.specs.Places.{sizedIn}
+use Rattle.all_maps_fit.specs.declared.SizedAt.{SizedAt}
+use Rattle.all_maps_fit.specs.declared.SizedAt.the-variants as S
+use Rattle.all_maps_fit.proofs.Runs.{rest-none, rest-one, rest-all}
 use Rattle.tx_size.specs.Lengths.{isThere, scripted, scriptBytes, outLength, capped, measureBy, outMeasure, moreBy, outsMeasure, fixedLength, txMeasure}
 use Rattle.tx_size.specs.Places.{pairsIn, outIn, outNow, outsNow, thereAt, scriptIn, scriptLength, hasScript}
 use Rattle.tx_size.specs.declared.Measure.{Measure}
@@ -70,7 +64,8 @@ module _ (f P : List ℕ) (m : MapEntry) (e : List ℕ) (x : SizedAt) (ex : size
     by-script (is v) q (InFile s n) r t = never-true (sym t ∙ r)
     by-script (is v) q InTable r t = never-true (sym t ∙ r)
 
-    with-script : (v : Sized) → isThere v ≡ true → (z : ScriptAt) → b ≡ hasScript z → b ≡ true → Takes (outLength (scriptLength f e z)) ≡ measureBy v (scriptIn f e z)
+    with-script : (v : Sized) → isThere v ≡ true → (z : ScriptAt) → b ≡ hasScript z → b ≡ true
+        → Takes (outLength (scriptLength f e z)) ≡ measureBy v (scriptIn f e z)
     unfolding measureBy isThere scriptIn hasScript scriptLength scriptBytes
     with-script missing q z r t = never-true q
     with-script misfit q z r t = never-true q
@@ -92,32 +87,11 @@ module _ (f P : List ℕ) (m : MapEntry) (e : List ℕ) (x : SizedAt) (ex : size
 
 pub ruleset lens = (len-amount, len-script, len-takes, script-few)
 
--- of n in all, those from number i on: none, or one and the rest; from the first on, all
-module _ {A : Type 0} (g : ℕ → A) (i n : ℕ) where
-  pub rest-none : n ≤ i → from g i (n - i) ≡ []
-  rest-none h = from-none g i (n - i) (omega arith)
-
-  pub rest-one : i < n → from g i (n - i) ≡ g i ∷ from g (i + 1) (n - (i + 1))
-  rest-one h = let q : n - i - 1 ≡ n - (i + 1) = omega arith in from-one g i (n - i) (omega arith) ∙ rw q
-
-pub rest-all : {A : Type 0} (g : ℕ → A) (n : ℕ) → from g 0 (n - 0) ≡ from g 0 n
-rest-all g n = let q : n - 0 ≡ n = omega arith in rw q
-
 -- the output of its map's entry, with its script by now
 pub out-at : (f P M : List ℕ) (s : Psbt) (t : State) (T : List ℕ) (i : ℕ) (m : MapEntry) (e : List ℕ)
     → m ≡ mapAt M (1 + s .inputs + i) → e ≡ entryAt (setSoFar t T) i → outNow f P M s t T i ≡ scripted (outIn f P m) e
 unfolding outNow outAt outIn pairsOf
 out-at f P M s t T i m e p q = ap₂ (λ (x : MapEntry) (y : List ℕ). scripted (outIn f P x) y) (sym p) (sym q)
-
--- the number of its map fits
-module _ (f P M : List ℕ) (s : Psbt) (i : ℕ) (k : AllFit f P M s) (h : i < s .outputs) where
-  pub output-first : length M < 2 ^ 64 → Fits w64 (1 + s .inputs)
-  output-first g = record { fits = omega (arith, output-listed f P M s k i h, map-count M) }
-
-  pub output-number : length M < 2 ^ 64 → Fits w64 (1 + s .inputs + i)
-  output-number g = record { fits = omega (arith, output-listed f P M s k i h, map-count M) }
-
-pub ruleset output-maps = (output-listed, output-usable, output-first, output-number)
 
 -- measuring outputs from number i on gives what measuring all gives
 pub record Measuring (f P M : List ℕ) (s : Psbt) (t : State) (T : List ℕ) (first i total : ℕ) : Type 0 where
@@ -134,11 +108,13 @@ module _ (f P M : List ℕ) (s : Psbt) (t : State) (T : List ℕ) (first i total
 
   module _ (h : i < s .outputs) (m : MapEntry) (em : m ≡ mapAt M (1 + s .inputs + i)) (e : List ℕ) (ee : e ≡ entryAt (setSoFar t T) i)
       (r : Measure) (q : r ≡ outMeasure (scripted (outIn f P m) e)) where
-    step : (y : Measure) → r ≡ y → outsMeasure (outsNow f P M s t T) first ≡ moreBy (outsMeasure (from (outNow f P M s t T) (i + 1) (s .outputs - (i + 1)))) total y
+    step : (y : Measure) → r ≡ y
+        → outsMeasure (outsNow f P M s t T) first ≡ moreBy (outsMeasure (from (outNow f P M s t T) (i + 1) (s .outputs - (i + 1)))) total y
     unfolding outsMeasure
     step y w =
         sym (k .is) ∙ ap (λ (l : List Out). outsMeasure l total) (rest-one (outNow f P M s t T) i (s .outputs) h)
-        ∙ ap (moreBy (outsMeasure (from (outNow f P M s t T) (i + 1) (s .outputs - (i + 1)))) total) (ap outMeasure (out-at f P M s t T i m e em ee) ∙ sym q ∙ w)
+        ∙ ap (moreBy (outsMeasure (from (outNow f P M s t T) (i + 1) (s .outputs - (i + 1)))) total)
+        (ap outMeasure (out-at f P M s t T i m e em ee) ∙ sym q ∙ w)
 
     pub measure-stop : (x : PsbtError) → r ≡ Refused x → Refused x ≡ outsMeasure (outsNow f P M s t T) first
     unfolding moreBy

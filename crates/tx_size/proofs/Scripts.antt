@@ -1,6 +1,6 @@
 -- Laws of where an output's script stands, and of how long it is.
 use mathlib.Core.Path.{_≡_, refl, sym, _∙_, ap}
-use mathlib.Core.Bool.{Bool, true, false}
+use mathlib.Core.Bool.{Bool, true, false, not}
 use mathlib.Core.List.{List, [], _∷_}
 use Prim.Native.Nat.{ℕ, _-_, _*_, _^_, _≤_, _<_}
 use native.Mathlib.Omega.{arith}
@@ -16,10 +16,10 @@ use Rattle.format.specs.declared.State.{State}
 use Rattle.format.specs.declared.Looked.the-variants as K
 use Rattle.format.proofs.Tests.{never-true}
 use Rattle.scripts.specs.Tables.{entryAt}
-use Rattle.all_maps.specs.Places.{foundIn, fieldAt}
-use Rattle.all_maps.specs.declared.FoundAt.{FoundAt}
-use Rattle.all_maps.specs.declared.FoundAt.the-variants as F
-use Rattle.all_maps.proofs.Fields.{usable-within, found-shows}
+use Rattle.all_maps_fit.specs.Places.{foundIn, fieldAt}
+use Rattle.all_maps_fit.specs.declared.FoundAt.{FoundAt}
+use Rattle.all_maps_fit.specs.declared.FoundAt.the-variants as F
+use Rattle.all_maps_fit.proofs.Fields.{usable-within, found-shows}
 use Rattle.tx_size.specs.Lengths.{scripted, scriptBytes}
 use Rattle.tx_size.specs.Places.{outIn, isSet, scriptIn, scriptLength, hasScript}
 use Rattle.tx_size.specs.declared.ScriptAt.{ScriptAt}
@@ -40,7 +40,7 @@ module _ (t : State) (T : List ℕ) (i : ℕ) where
 pub ruleset entries-set = (entry-set, entry-unset)
 
 -- a script set in it
-pub set-none : (e : List ℕ) → length e ≡ 0 → false ≡ isSet e
+pub set-none : (e : List ℕ) → length e ≡ 0 → not (eqb (length e) 0) ≡ isSet e
 unfolding isSet
 set-none [] h = refl
 set-none (b ∷ s) h = absurd (omega arith)

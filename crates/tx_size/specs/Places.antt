@@ -13,9 +13,9 @@ use Rattle.format.specs.declared.Psbt.{Psbt}
 use Rattle.format.specs.declared.State.{State}
 use Rattle.fitness.specs.Fits.{entriesOf}
 use Rattle.scripts.specs.Tables.{entryAt}
-use Rattle.all_maps.specs.Alls.{outAt, from}
-use Rattle.all_maps.specs.declared.SizedAt.{SizedAt}
-use Rattle.all_maps.specs.declared.SizedAt.the-variants as S
+use Rattle.all_maps_fit.specs.Alls.{outAt, from}
+use Rattle.all_maps_fit.specs.declared.SizedAt.{SizedAt}
+use Rattle.all_maps_fit.specs.declared.SizedAt.the-variants as S
 use Rattle.tx_size.specs.Lengths.{scripted, scriptBytes}
 use Rattle.tx_size.specs.declared.ScriptAt.{ScriptAt}
 use Rattle.tx_size.specs.declared.ScriptAt.the-variants.{Missing, InFile, InTable}

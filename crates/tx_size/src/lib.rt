@@ -1,6 +1,6 @@
 // How many bytes an unsigned transaction takes, and whether each output has what it needs: an amount, and a script in the file or in the script table.
-use all_maps::FoundAt;
-use all_maps::SizedAt;
+use all_maps_fit::FoundAt;
+use all_maps_fit::SizedAt;
 use format::Looked;
 use format::MapEntry;
 use format::PSBT_OUT_AMOUNT;
@@ -12,7 +12,7 @@ ghost use mathlib.Core.Path.{_≡_};
 ghost use Prim.Native.Nat.{_+_, _^_, _<_};
 ghost use Rattle.format.specs.Transaction.{setSoFar};
 ghost use Rattle.scripts.specs.Tables.{entryAt};
-ghost use Rattle.all_maps.specs.Alls.{Usable, AllFit};
+ghost use Rattle.all_maps_fit.specs.Alls.{Usable, AllFit};
 ghost use Rattle.tx_size.specs.Lengths.{scripted, outLength, capped, outMeasure, outsMeasure, fixedLength, txMeasure};
 ghost use Rattle.tx_size.specs.Places.{outIn, outsNow, thereAt, isSet, scriptIn, scriptLength, hasScript};
 
@@ -29,11 +29,8 @@ pub enum ScriptAt {
     InTable,
 }
 
-// More bytes than any buffer has.
-const GREATEST: u64 = 18446744073709551615;
-
 // How many bytes an input takes.
-pub const INPUT: u64 = 41;
+pub const INPUT_LEN: u64 = 41;
 
 // A field is there.
 pub fn is_there(x: SizedAt) -> bool
@@ -61,19 +58,16 @@ pub fn set_entry(scripts: &[u8], state: State, i: u64) -> &[u8]
 fn is_set(entry: &[u8]) -> bool
     ensures { λ r. ⌜ r ≡ isSet (now (entry .entry)) ⌝ }
 {
-    if entry.len() == 0 {
-        false
-    } else {
-        entry[0] == 1
-    }
+    entry.len() != 0 && entry[0] == 1
 }
 
 // Where an output's script stands: 04, else the one set.
 pub fn script_at(file: &[u8], pairs: &[u32], m: MapEntry, entry: &[u8]) -> ScriptAt
     requires { ⌜ Usable (now file) (now pairs) m ⌝ }
-    ensures { λ r. ⌜ scriptIn (now (file .entry)) (now (entry .entry)) r ≡ (scripted (outIn (now (file .entry)) (now (pairs .entry)) m) (now (entry .entry))) .script ⌝ }
+    ensures { λ r. ⌜ scriptIn (now (file .entry)) (now (entry .entry)) r
+        ≡ (scripted (outIn (now (file .entry)) (now (pairs .entry)) m) (now (entry .entry))) .script ⌝ }
 {
-    match all_maps::found_field(file, pairs, m, PSBT_OUT_SCRIPT) {
+    match all_maps_fit::found_field(file, pairs, m, PSBT_OUT_SCRIPT) {
         FoundAt::At { start, len } => ScriptAt::InFile { start, len },
         FoundAt::Missing => {
             if is_set(entry) {
@@ -121,7 +115,7 @@ fn output_len(file: &[u8], pairs: &[u32], m: MapEntry, entry: &[u8]) -> Measure
     requires { ⌜ Usable (now file) (now pairs) m ⌝ }
     ensures { λ r. ⌜ r ≡ outMeasure (scripted (outIn (now (file .entry)) (now (pairs .entry)) m) (now (entry .entry))) ⌝ }
 {
-    let amount = all_maps::sized_field(file, pairs, m, PSBT_OUT_AMOUNT, 8);
+    let amount = all_maps_fit::sized_field(file, pairs, m, PSBT_OUT_AMOUNT, 8);
     if is_there(amount) {
         let at = script_at(file, pairs, m, entry);
         if has_script(at) {
@@ -138,7 +132,7 @@ fn output_len(file: &[u8], pairs: &[u32], m: MapEntry, entry: &[u8]) -> Measure
 fn add_capped(a: u64, b: u64) -> u64
     ensures { λ r. ⌜ r ≡ capped (a + b) ⌝ }
 {
-    if GREATEST - a < b { GREATEST } else { a + b }
+    if u64::MAX - a < b { u64::MAX } else { a + b }
 }
 
 // So many bytes, and then all outputs.
@@ -157,7 +151,7 @@ fn outputs_len(
     let mut i: u64 = 0;
     let mut total = first;
     while i < psbt.outputs {
-        let m = entries::map_entry(maps, (1 + psbt.inputs + i) as usize);
+        let m = all_maps_fit::output_entry(maps, psbt, i);
         let entry = set_entry(scripts, state, i);
         match output_len(file, pairs, m, entry) {
             Measure::Refused(e) => {
@@ -177,10 +171,10 @@ fn fixed_len(psbt: Psbt) -> u64
     ensures { λ r. ⌜ r ≡ capped (fixedLength (psbt .inputs) (psbt .outputs)) ⌝ }
 {
     let sizes = 8 + writer::size_len(psbt.inputs) as u64 + writer::size_len(psbt.outputs) as u64;
-    if GREATEST / INPUT < psbt.inputs {
-        GREATEST
+    if u64::MAX / INPUT_LEN < psbt.inputs {
+        u64::MAX
     } else {
-        add_capped(psbt.inputs * INPUT, sizes)
+        add_capped(psbt.inputs * INPUT_LEN, sizes)
     }
 }
 

@@ -33,7 +33,7 @@ fn number_field(file: &[u8], pairs: &[u32], fit: Fit, key_type: u8, width: usize
     lookup::number_at(file, looked)
 }
 
-// The same of input number `i`.
+// The part that a field of input number `i` has.
 fn input_part(
     file: &[u8],
     pairs: &[u32],
@@ -43,12 +43,14 @@ fn input_part(
     key_type: u8,
     wanted: Wanted,
 ) -> Looked
-    ensures { λ r. ⌜ toldLooked r ≡ toldLooked (partField «key_type» (lengthOf wanted) (now (file .entry)) (heldInput (now (file .entry)) (now (pairs .entry)) (now (maps .entry)) psbt i)) ⌝ }
+    ensures { λ r. ⌜ toldLooked r ≡ toldLooked (partField «key_type» (lengthOf wanted) (now (file .entry))
+        (heldInput (now (file .entry)) (now (pairs .entry)) (now (maps .entry)) psbt i)) ⌝ }
 {
     let fit = fitness::fit_input(file, pairs, maps, psbt, i);
     part_field(file, pairs, fit, key_type, wanted)
 }
 
+// The number that a field of input number `i` spells.
 fn input_number(
     file: &[u8],
     pairs: &[u32],
@@ -59,13 +61,14 @@ fn input_number(
     width: usize,
 ) -> Numbered
     requires { ⌜ width ≤ 8 ⌝ }
-    ensures { λ r. ⌜ toldNumbered r ≡ toldNumbered (numberField «key_type» width (now (file .entry)) (heldInput (now (file .entry)) (now (pairs .entry)) (now (maps .entry)) psbt i)) ⌝ }
+    ensures { λ r. ⌜ toldNumbered r ≡ toldNumbered (numberField «key_type» width (now (file .entry))
+        (heldInput (now (file .entry)) (now (pairs .entry)) (now (maps .entry)) psbt i)) ⌝ }
 {
     let fit = fitness::fit_input(file, pairs, maps, psbt, i);
     number_field(file, pairs, fit, key_type, width)
 }
 
-// The same of output number `i`.
+// The part that a field of output number `i` has.
 fn output_part(
     file: &[u8],
     pairs: &[u32],
@@ -75,12 +78,14 @@ fn output_part(
     key_type: u8,
     wanted: Wanted,
 ) -> Looked
-    ensures { λ r. ⌜ toldLooked r ≡ toldLooked (partField «key_type» (lengthOf wanted) (now (file .entry)) (heldOutput (now (file .entry)) (now (pairs .entry)) (now (maps .entry)) psbt i)) ⌝ }
+    ensures { λ r. ⌜ toldLooked r ≡ toldLooked (partField «key_type» (lengthOf wanted) (now (file .entry))
+        (heldOutput (now (file .entry)) (now (pairs .entry)) (now (maps .entry)) psbt i)) ⌝ }
 {
     let fit = fitness::fit_output(file, pairs, maps, psbt, i);
     part_field(file, pairs, fit, key_type, wanted)
 }
 
+// The number that a field of output number `i` spells.
 fn output_number(
     file: &[u8],
     pairs: &[u32],
@@ -91,7 +96,8 @@ fn output_number(
     width: usize,
 ) -> Numbered
     requires { ⌜ width ≤ 8 ⌝ }
-    ensures { λ r. ⌜ toldNumbered r ≡ toldNumbered (numberField «key_type» width (now (file .entry)) (heldOutput (now (file .entry)) (now (pairs .entry)) (now (maps .entry)) psbt i)) ⌝ }
+    ensures { λ r. ⌜ toldNumbered r ≡ toldNumbered (numberField «key_type» width (now (file .entry))
+        (heldOutput (now (file .entry)) (now (pairs .entry)) (now (maps .entry)) psbt i)) ⌝ }
 {
     let fit = fitness::fit_output(file, pairs, maps, psbt, i);
     number_field(file, pairs, fit, key_type, width)

@@ -19,8 +19,10 @@ ghost use Rattle.format.specs.Lookups.{list};
 ghost use Rattle.format.specs.Fields.{outRedeemScript, outWitnessScript, amount, script, spV0Info, spV0Label};
 ghost use Rattle.format.specs.Told.{toldListing, toldLooked, toldNumbered};
 
+// The redeem script.
 pub fn redeem_script(file: &[u8], pairs: &[u32], maps: &[u32], psbt: Psbt, i: u64) -> Looked
-    ensures { λ r. ⌜ toldLooked r ≡ toldLooked (outRedeemScript (now (file .entry)) (heldOutput (now (file .entry)) (now (pairs .entry)) (now (maps .entry)) psbt i)) ⌝ }
+    ensures { λ r. ⌜ toldLooked r ≡ toldLooked (outRedeemScript (now (file .entry))
+        (heldOutput (now (file .entry)) (now (pairs .entry)) (now (maps .entry)) psbt i)) ⌝ }
 {
     output_part(
         file,
@@ -33,8 +35,10 @@ pub fn redeem_script(file: &[u8], pairs: &[u32], maps: &[u32], psbt: Psbt, i: u6
     )
 }
 
+// The witness script.
 pub fn witness_script(file: &[u8], pairs: &[u32], maps: &[u32], psbt: Psbt, i: u64) -> Looked
-    ensures { λ r. ⌜ toldLooked r ≡ toldLooked (outWitnessScript (now (file .entry)) (heldOutput (now (file .entry)) (now (pairs .entry)) (now (maps .entry)) psbt i)) ⌝ }
+    ensures { λ r. ⌜ toldLooked r ≡ toldLooked (outWitnessScript (now (file .entry))
+        (heldOutput (now (file .entry)) (now (pairs .entry)) (now (maps .entry)) psbt i)) ⌝ }
 {
     output_part(
         file,
@@ -47,12 +51,15 @@ pub fn witness_script(file: &[u8], pairs: &[u32], maps: &[u32], psbt: Psbt, i: u
     )
 }
 
+// The amount.
 pub fn amount(file: &[u8], pairs: &[u32], maps: &[u32], psbt: Psbt, i: u64) -> Numbered
-    ensures { λ r. ⌜ toldNumbered r ≡ toldNumbered (amount (now (file .entry)) (heldOutput (now (file .entry)) (now (pairs .entry)) (now (maps .entry)) psbt i)) ⌝ }
+    ensures { λ r. ⌜ toldNumbered r ≡ toldNumbered (amount (now (file .entry))
+        (heldOutput (now (file .entry)) (now (pairs .entry)) (now (maps .entry)) psbt i)) ⌝ }
 {
     output_number(file, pairs, maps, psbt, i, PSBT_OUT_AMOUNT, 8)
 }
 
+// The script.
 pub fn script(file: &[u8], pairs: &[u32], maps: &[u32], psbt: Psbt, i: u64) -> Looked
     ensures { λ r. ⌜ toldLooked r ≡ toldLooked (script (now (file .entry)) (heldOutput (now (file .entry)) (now (pairs .entry)) (now (maps .entry)) psbt i)) ⌝ }
 {
@@ -67,8 +74,10 @@ pub fn script(file: &[u8], pairs: &[u32], maps: &[u32], psbt: Psbt, i: u64) -> L
     )
 }
 
+// The silent payment code.
 pub fn sp_v0_info(file: &[u8], pairs: &[u32], maps: &[u32], psbt: Psbt, i: u64) -> Looked
-    ensures { λ r. ⌜ toldLooked r ≡ toldLooked (spV0Info (now (file .entry)) (heldOutput (now (file .entry)) (now (pairs .entry)) (now (maps .entry)) psbt i)) ⌝ }
+    ensures { λ r. ⌜ toldLooked r ≡ toldLooked (spV0Info (now (file .entry))
+        (heldOutput (now (file .entry)) (now (pairs .entry)) (now (maps .entry)) psbt i)) ⌝ }
 {
     output_part(
         file,
@@ -81,8 +90,10 @@ pub fn sp_v0_info(file: &[u8], pairs: &[u32], maps: &[u32], psbt: Psbt, i: u64) 
     )
 }
 
+// Its label.
 pub fn sp_v0_label(file: &[u8], pairs: &[u32], maps: &[u32], psbt: Psbt, i: u64) -> Numbered
-    ensures { λ r. ⌜ toldNumbered r ≡ toldNumbered (spV0Label (now (file .entry)) (heldOutput (now (file .entry)) (now (pairs .entry)) (now (maps .entry)) psbt i)) ⌝ }
+    ensures { λ r. ⌜ toldNumbered r ≡ toldNumbered (spV0Label (now (file .entry))
+        (heldOutput (now (file .entry)) (now (pairs .entry)) (now (maps .entry)) psbt i)) ⌝ }
 {
     output_number(file, pairs, maps, psbt, i, PSBT_OUT_SP_V0_LABEL, 4)
 }
@@ -96,14 +107,17 @@ pub fn iter_keys(
     i: u64,
     key_type: u8,
 ) -> Listing
-    ensures { λ r. ⌜ toldListing r ≡ toldListing (list (now (file .entry)) «key_type» (heldOutput (now (file .entry)) (now (pairs .entry)) (now (maps .entry)) psbt i)) ⌝ }
+    ensures { λ r. ⌜ toldListing r ≡ toldListing (list (now (file .entry)) «key_type»
+        (heldOutput (now (file .entry)) (now (pairs .entry)) (now (maps .entry)) psbt i)) ⌝ }
 {
     let fit = fitness::fit_output(file, pairs, maps, psbt, i);
     lookup::list_in(file, pairs, fit, key_type)
 }
 
+// The pairs of derivations.
 pub fn bip32_derivations(file: &[u8], pairs: &[u32], maps: &[u32], psbt: Psbt, i: u64) -> Listing
-    ensures { λ r. ⌜ toldListing r ≡ toldListing (list (now (file .entry)) 0x02 (heldOutput (now (file .entry)) (now (pairs .entry)) (now (maps .entry)) psbt i)) ⌝ }
+    ensures { λ r. ⌜ toldListing r ≡ toldListing (list (now (file .entry)) 0x02
+        (heldOutput (now (file .entry)) (now (pairs .entry)) (now (maps .entry)) psbt i)) ⌝ }
 {
     iter_keys(file, pairs, maps, psbt, i, PSBT_OUT_BIP32_DERIVATION)
 }

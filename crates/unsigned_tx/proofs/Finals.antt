@@ -10,7 +10,8 @@ use Rattle.format.specs.Tests.{every}
 use Rattle.format.specs.Tables.{view, gather, mapsReported}
 use Rattle.format.specs.Locks.{lockOf, decide}
 use Rattle.format.specs.Scripts.{Out, scriptEntry, Reported, reports}
-use Rattle.format.specs.Transaction.{Tx, writes, tableFits, setSoFar, txWith, txBy, transaction, txReported, TxOut, txOut, written, unsignedTx, lockBy, lockDecided}
+use Rattle.format.specs.Transaction.{Tx, writes, tableFits, setSoFar, txWith, txBy, transaction}
+use Rattle.format.specs.Transaction.{txReported, TxOut, txOut, written, unsignedTx, lockBy, lockDecided}
 use Rattle.format.specs.Told.{toldLeft, toldTx, toldTxOut}
 use Rattle.format.specs.declared.PsbtError.{PsbtError}
 use Rattle.format.specs.declared.PsbtError.the-variants.{BadValue, BadIndex, NoRoom}
@@ -23,8 +24,8 @@ use Rattle.format.specs.declared.UnsignedTx.{UnsignedTx}
 use Rattle.format.specs.declared.UnsignedTx.the-variants as U
 use Rattle.writer.proofs.Writes.{wrote-front}
 use Rattle.scripts.specs.Tables.{entryAt}
-use Rattle.all_maps.specs.Alls.{ruledBy, AllFit, outAt, from, insOf, outsOf}
-use Rattle.all_maps.proofs.Gathers.{all-are, all-not, all-reported}
+use Rattle.all_maps_fit.specs.Alls.{ruledBy, AllFit, outAt, from, insOf, outsOf}
+use Rattle.all_maps_fit.proofs.Gathers.{all-are, all-not, all-reported}
 use Rattle.lock.specs.Asks.{noAsks, walk, decideAsks, lockedBy}
 use Rattle.lock.proofs.Locks.{lock-fit}
 use Rattle.lock.specs.declared.LockTime.{LockTime}
@@ -134,7 +135,8 @@ module _ (f P M : List ℕ) (s : Psbt) (t : State) (T : List ℕ) (k : AllFit f 
   unfolding txReported written
   call-table h = sym (by-maps ∙ rw (sym eb ∙ h))
 
-  module _ (h : b ≡ true) (v : Survey) (ev : v ≡ surveyOf (insOf f P M s)) (l : Lock) (el : l ≡ decideAsks (s .«fallback_locktime») (v .asks)) (r : LockTime) (er : lockedBy r ≡ lockOf l) where
+  module _ (h : b ≡ true) (v : Survey) (ev : v ≡ surveyOf (insOf f P M s)) (l : Lock) (el : l ≡ decideAsks (s .«fallback_locktime») (v .asks))
+      (r : LockTime) (er : lockedBy r ≡ lockOf l) where
     asked : v .asks ≡ walk noAsks 0 (insOf f P M s)
     unfolding surveyOf
     asked = ap (λ (x : Survey). x .asks) ev
@@ -158,7 +160,8 @@ module _ (f P M : List ℕ) (s : Psbt) (t : State) (T : List ℕ) (k : AllFit f 
     unfolding txBy lockedBy written
     call-lock e q = sym (by-lock ∙ rw q)
 
-    pub call-locked : (n : ℕ) → r ≡ L.Is n → (x : UnsignedTx) (B₁ : List ℕ) → txOut x B₁ ≡ written t B (txWith s (insOf f P M s) (outsOf f P M s) (setSoFar t T) n)
+    pub call-locked : (n : ℕ) → r ≡ L.Is n → (x : UnsignedTx) (B₁ : List ℕ)
+        → txOut x B₁ ≡ written t B (txWith s (insOf f P M s) (outsOf f P M s) (setSoFar t T) n)
         → txOut x B₁ ≡ unsignedTx (view f P M s) s t T B
     unfolding txBy lockedBy
     call-locked n q x B₁ w = w ∙ sym (by-lock ∙ rw q)

@@ -15,14 +15,14 @@ use Rattle.format.specs.declared.State.{State}
 use Rattle.entries.specs.Words.{pairCount, mapAt}
 use Rattle.scripts.specs.Tables.{entryAt, fitsBy}
 use Rattle.scripts.proofs.Tables.{fits-is}
-use Rattle.all_maps.specs.Alls.{AllFit, pairsOf, outAt, from, outsOf}
-use Rattle.all_maps.specs.Places.{foundIn, fieldAt}
-use Rattle.all_maps.specs.declared.FoundAt.{FoundAt}
-use Rattle.all_maps.specs.declared.FoundAt.the-variants as F
-use Rattle.all_maps.proofs.Gathers.{output-usable}
-use Rattle.all_maps.proofs.Fields.{usable-within, found-shows}
+use Rattle.all_maps_fit.specs.Alls.{AllFit, pairsOf, outAt, from, outsOf}
+use Rattle.all_maps_fit.specs.Places.{foundIn, fieldAt}
+use Rattle.all_maps_fit.specs.declared.FoundAt.{FoundAt}
+use Rattle.all_maps_fit.specs.declared.FoundAt.the-variants as F
+use Rattle.all_maps_fit.proofs.Runs.{rest-none, rest-one, rest-all}
+use Rattle.all_maps_fit.proofs.Gathers.{output-usable}
+use Rattle.all_maps_fit.proofs.Fields.{usable-within, found-shows}
 use Rattle.tx_size.specs.Places.{pairsIn}
-use Rattle.tx_size.proofs.Outputs.{rest-none, rest-one, rest-all}
 use Rattle.unsigned_tx.specs.Surveys.{isFound}
 
 -- the entry behind entry number i
@@ -53,7 +53,8 @@ module _ (f P M : List ℕ) (s : Psbt) (T : List ℕ) (i : ℕ) (k : Judging f P
   unfolding scriptsFit
   judge-done h = sym (ap (λ (l : List Out). scriptsFit l (drop (i * scriptEntry) T)) (rest-none (outAt f P M s) i (s .outputs) h)) ∙ k .is
 
-  module _ (h : i < s .outputs) (m : MapEntry) (em : m ≡ mapAt M (1 + s .inputs + i)) (x : FoundAt) (ex : x ≡ fieldAt f P 0x04 m) (b : Bool) (eb : b ≡ isFound x)
+  module _ (h : i < s .outputs) (m : MapEntry) (em : m ≡ mapAt M (1 + s .inputs + i)) (x : FoundAt) (ex : x ≡ fieldAt f P 0x04 m) (b : Bool)
+      (eb : b ≡ isFound x)
       (e : List ℕ) (ee : e ≡ entryAt T i) (r : Bool) (er : r ≡ fitsBy b e) where
     one : entryFits ((outAt f P M s i) .script) (entryAt T i) ≡ r
     unfolding outAt outOf pairsOf
@@ -73,7 +74,8 @@ module _ (f P M : List ℕ) (s : Psbt) (T : List ℕ) (i : ℕ) (k : Judging f P
     pub judge-more : r ≡ true → Judging f P M s T (i + 1)
     judge-more w = record { is = sym (step ∙ rw w) }
 
-pub output-within : (f P M : List ℕ) (s : Psbt) (i : ℕ) (m : MapEntry) → AllFit f P M s → i < s .outputs → m ≡ mapAt M (1 + s .inputs + i) → m .first + m .count ≤ pairCount P
+pub output-within : (f P M : List ℕ) (s : Psbt) (i : ℕ) (m : MapEntry) → AllFit f P M s → i < s .outputs → m ≡ mapAt M (1 + s .inputs + i)
+    → m .first + m .count ≤ pairCount P
 output-within f P M s i m k h e = usable-within f P m (output-usable f P M s k i h m e)
 
 pub ruleset judges = (judge-first, judge-done, judge-stop, judge-more, output-within)

@@ -149,12 +149,14 @@ module _ (s : Psbt) (ins : List In) (os : List Out) (T : List ℕ) (n : ℕ) whe
     pub tx-bad-output : (e : PsbtError) → outsMeasure (allScripted os T) m ≡ Refused e → txWith s ins os T n ≡ refuses e
     unfolding txWith ahead
     tx-bad-output e q =
-        ap (λ (t : Tx). ahead (bytesOf 4 (unsigned (s .«tx_version»)) ++ shortest (length ins)) (inputsThen ins (ahead (shortest (length os)) t))) (outs-bad os T (writes (bytesOf 4 n)) m e q)
+        ap (λ (t : Tx). ahead (bytesOf 4 (unsigned (s .«tx_version»)) ++ shortest (length ins)) (inputsThen ins (ahead (shortest (length os)) t)))
+        (outs-bad os T (writes (bytesOf 4 n)) m e q)
         ∙ ap (ahead (bytesOf 4 (unsigned (s .«tx_version»)) ++ shortest (length ins))) (inputs-ok ins (refuses e) h)
 
     pub tx-ok : (k : ℕ) → outsMeasure (allScripted os T) m ≡ Takes k → txWith s ins os T n ≡ writes (txBytes s ins (allScripted os T) n)
     unfolding txWith txBytes ahead
     tx-ok k q =
-        ap (λ (t : Tx). ahead (bytesOf 4 (unsigned (s .«tx_version»)) ++ shortest (length ins)) (inputsThen ins (ahead (shortest (length os)) t))) (outs-ok os T (writes (bytesOf 4 n)) m k q)
+        ap (λ (t : Tx). ahead (bytesOf 4 (unsigned (s .«tx_version»)) ++ shortest (length ins)) (inputsThen ins (ahead (shortest (length os)) t)))
+        (outs-ok os T (writes (bytesOf 4 n)) m k q)
         ∙ ap (ahead (bytesOf 4 (unsigned (s .«tx_version»)) ++ shortest (length ins))) (inputs-ok ins _ h)
         ∙ rw (scripted-length os T)

@@ -9,21 +9,20 @@ use Rattle.format.specs.Transaction.{orFinal}
 use Rattle.format.specs.declared.MapEntry.{MapEntry}
 use Rattle.format.specs.declared.Psbt.{Psbt}
 use Rattle.entries.specs.Words.{mapAt}
-use Rattle.all_maps.specs.Alls.{inAt, from, insOf}
-use Rattle.all_maps.specs.Places.{sizedIn, inputIn}
-use Rattle.all_maps.specs.declared.SizedAt.{SizedAt}
-use Rattle.all_maps.specs.declared.SizedAt.the-variants as S
-use Rattle.all_maps.specs.declared.InputAt.{InputAt}
-use Rattle.all_maps.proofs.Gathers.{input-listed, input-usable}
+use Rattle.all_maps_fit.specs.Alls.{inAt, from, insOf}
+use Rattle.all_maps_fit.specs.Places.{sizedIn, inputIn}
+use Rattle.all_maps_fit.specs.declared.SizedAt.{SizedAt}
+use Rattle.all_maps_fit.specs.declared.SizedAt.the-variants as S
+use Rattle.all_maps_fit.specs.declared.InputAt.{InputAt}
+use Rattle.all_maps_fit.proofs.Runs.{rest-none, rest-one, rest-all}
 use Rattle.lock.specs.Asks.{seenIn, noAsks}
 use Rattle.lock.specs.declared.Asks.{Asks}
 use Rattle.lock.proofs.Wishes.{shown-at}
 use Rattle.lock.proofs.Locks.{Walking, walk-first, walk-done, walk-more}
 use Rattle.tx_size.specs.Lengths.{isThere}
 use Rattle.tx_size.specs.Places.{pairsIn, thereAt}
-use Rattle.tx_size.proofs.Outputs.{there-in, rest-none, rest-one, rest-all}
+use Rattle.tx_size.proofs.Outputs.{there-in}
 use Rattle.tx_bytes.specs.Bytes.{inputOk}
-use Rattle.tx_bytes.proofs.Inputs.{input-number}
 use Rattle.unsigned_tx.specs.Surveys.{allowedAt, okAt, surveyOf}
 
 -- a field that may be absent, by the case that it is
@@ -38,14 +37,14 @@ allowed-in w f (S.At s) = refl
 
 -- an input has what a transaction needs, by the places of its fields
 module _ (x : InputAt) (a : Bool) (ea : a ≡ thereAt (x .txid)) where
-  pub ok-no-txid : a ≡ false → false ≡ okAt x
+  pub ok-no-txid : a ≡ false → a ≡ okAt x
   unfolding okAt
-  ok-no-txid h = rw (sym ea ∙ h)
+  ok-no-txid h = h ∙ rw (sym ea ∙ h)
 
   module _ (h : a ≡ true) (b : Bool) (eb : b ≡ thereAt (x .index)) where
-    pub ok-no-index : b ≡ false → false ≡ okAt x
+    pub ok-no-index : b ≡ false → b ≡ okAt x
     unfolding okAt
-    ok-no-index k = rw (sym ea ∙ h, sym eb ∙ k)
+    ok-no-index k = k ∙ rw (sym ea ∙ h, sym eb ∙ k)
 
     pub ok-sequence : b ≡ true → (r : Bool) → r ≡ allowedAt (x .sequence) → r ≡ okAt x
     unfolding okAt
@@ -58,7 +57,7 @@ module _ (ok : Bool) (x : InputAt) where
   pub all-more : ok ≡ true → (r : Bool) → r ≡ okAt x → r ≡ (ok && okAt x)
   all-more h r q = q ∙ sym (rw h)
 
-  pub all-none : ok ≡ false → false ≡ (ok && okAt x)
+  pub all-none : ok ≡ false → ok ≡ (ok && okAt x)
   all-none h = rw h
 
 pub ruleset alls = (all-more, all-none)
@@ -80,7 +79,8 @@ module _ (f P M : List ℕ) (s : Psbt) (a : Asks) (ok : Bool) (i : ℕ) (k : Sur
   pub survey-done : s .inputs ≤ i → record { asks = a; ok = ok } ≡ surveyOf (insOf f P M s)
   unfolding surveyOf every
   survey-done h =
-      let o : ok ≡ every inputOk (insOf f P M s) = sym (ap (λ (l : List In). ok && every inputOk l) (rest-none (inAt f P M) i (s .inputs) h) ∙ and-true ok) ∙ k .judged in
+      let o : ok ≡ every inputOk (insOf f P M s)
+      = sym (ap (λ (l : List In). ok && every inputOk l) (rest-none (inAt f P M) i (s .inputs) h) ∙ and-true ok) ∙ k .judged in
       let w = walk-done f P M s a i (k .asked) h in
       λ j. record { asks = w j; ok = o j }
 
@@ -91,7 +91,8 @@ module _ (f P M : List ℕ) (s : Psbt) (a : Asks) (ok : Bool) (i : ℕ) (k : Sur
       let g = shown-at f P M i m e x q in
       record {
         asked = walk-more f P M s a i (k .asked) h b (eb ∙ ap (seenIn a i) g);
-        judged = rw (ec, ok-in f x, g) (and-assoc ok _ _ ∙ sym (ap (λ (l : List In). ok && every inputOk l) (rest-one (inAt f P M) i (s .inputs) h)) ∙ k .judged);
+        judged = rw (ec, ok-in f x, g)
+            (and-assoc ok _ _ ∙ sym (ap (λ (l : List In). ok && every inputOk l) (rest-one (inAt f P M) i (s .inputs) h)) ∙ k .judged);
       }
 
-pub ruleset surveys = (survey-first, survey-done, survey-more, input-listed, input-usable, input-number)
+pub ruleset surveys = (survey-first, survey-done, survey-more)

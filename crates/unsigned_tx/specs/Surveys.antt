@@ -8,12 +8,12 @@ use Rattle.format.specs.Tests.{every}
 use Rattle.format.specs.Locks.{In}
 use Rattle.format.specs.Scripts.{Out, scriptEntry}
 use Rattle.format.specs.declared.Psbt.{Psbt}
-use Rattle.all_maps.specs.Alls.{AllFit, insOf}
-use Rattle.all_maps.specs.declared.SizedAt.{SizedAt}
-use Rattle.all_maps.specs.declared.SizedAt.the-variants as S
-use Rattle.all_maps.specs.declared.InputAt.{InputAt}
-use Rattle.all_maps.specs.declared.FoundAt.{FoundAt}
-use Rattle.all_maps.specs.declared.FoundAt.the-variants as F
+use Rattle.all_maps_fit.specs.Alls.{AllFit, insOf}
+use Rattle.all_maps_fit.specs.declared.SizedAt.{SizedAt}
+use Rattle.all_maps_fit.specs.declared.SizedAt.the-variants as S
+use Rattle.all_maps_fit.specs.declared.InputAt.{InputAt}
+use Rattle.all_maps_fit.specs.declared.FoundAt.{FoundAt}
+use Rattle.all_maps_fit.specs.declared.FoundAt.the-variants as F
 use Rattle.lock.specs.Asks.{noAsks, walk}
 use Rattle.tx_size.specs.Lengths.{scripted}
 use Rattle.tx_size.specs.Places.{thereAt}

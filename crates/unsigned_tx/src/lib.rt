@@ -1,7 +1,7 @@
 // The unsigned transaction: measured and judged first, then written, so that a refusal writes nothing.
-use all_maps::FoundAt;
-use all_maps::InputAt;
-use all_maps::SizedAt;
+use all_maps_fit::FoundAt;
+use all_maps_fit::InputAt;
+use all_maps_fit::SizedAt;
 use format::PSBT_OUT_SCRIPT;
 use format::Psbt;
 use format::PsbtError;
@@ -16,7 +16,7 @@ ghost use mathlib.Core.Bool.{_&&_};
 ghost use Rattle.format.specs.Transaction.{setSoFar, scriptsFit, tableFits, txWith, txOut, written, unsignedTx};
 ghost use Rattle.format.specs.Told.{toldLeft, toldTx, toldTxOut};
 ghost use Rattle.format.specs.Tables.{view};
-ghost use Rattle.all_maps.specs.Alls.{AllFit, insOf, outsOf};
+ghost use Rattle.all_maps_fit.specs.Alls.{AllFit, insOf, outsOf};
 ghost use Rattle.unsigned_tx.specs.Surveys.{allowedAt, okAt, surveyOf, AllOk, isFound};
 
 // What all inputs ask of the lock, and whether each has what a transaction needs.
@@ -43,22 +43,14 @@ fn input_ok(at: InputAt) -> bool
     let txid = at.txid;
     let index = at.index;
     let sequence = at.sequence;
-    if tx_size::is_there(txid) {
-        if tx_size::is_there(index) {
-            is_allowed(sequence)
-        } else {
-            false
-        }
-    } else {
-        false
-    }
+    tx_size::is_there(txid) && (tx_size::is_there(index) && is_allowed(sequence))
 }
 
 // The inputs so far have, and one more.
 fn all_ok(ok: bool, at: InputAt) -> bool
     ensures { λ r. ⌜ r ≡ (ok && okAt at) ⌝ }
 {
-    if ok { input_ok(at) } else { false }
+    ok && input_ok(at)
 }
 
 // What all inputs ask of the lock, and whether each has what a transaction needs, in one walk.
@@ -70,8 +62,8 @@ fn survey_inputs(file: &[u8], pairs: &[u32], maps: &[u32], psbt: Psbt) -> Survey
     let mut ok = true;
     let mut i: u64 = 0;
     while i < psbt.inputs {
-        let m = entries::map_entry(maps, (1 + i) as usize);
-        let at = all_maps::input_at(file, pairs, m);
+        let m = all_maps_fit::input_entry(maps, i);
+        let at = all_maps_fit::input_at(file, pairs, m);
         asks = lock::see_at(file, asks, i, at);
         ok = all_ok(ok, at);
         i = i + 1;
@@ -96,8 +88,8 @@ fn scripts_fit(file: &[u8], pairs: &[u32], maps: &[u32], psbt: Psbt, scripts: &[
 {
     let mut i: u64 = 0;
     while i < psbt.outputs {
-        let m = entries::map_entry(maps, (1 + psbt.inputs + i) as usize);
-        let has = is_found(all_maps::found_field(file, pairs, m, PSBT_OUT_SCRIPT));
+        let m = all_maps_fit::output_entry(maps, psbt, i);
+        let has = is_found(all_maps_fit::found_field(file, pairs, m, PSBT_OUT_SCRIPT));
         if scripts::entry_fits(has, scripts::entry_at(scripts, i)) {
             i = i + 1;
         } else {
@@ -138,7 +130,9 @@ fn locked_tx(
     out: &mut [u8],
 ) -> UnsignedTx
     requires { ⌜ AllOk (now file) (now pairs) (now maps) psbt ⌝ }
-    ensures { λ r. ⌜ txOut r (now (out .exit)) ≡ written state (now (out .entry)) (txWith psbt (insOf (now (file .entry)) (now (pairs .entry)) (now (maps .entry)) psbt) (outsOf (now (file .entry)) (now (pairs .entry)) (now (maps .entry)) psbt) (setSoFar state (now (scripts .entry))) lock) ⌝ }
+    ensures { λ r. ⌜ txOut r (now (out .exit)) ≡ written state (now (out .entry)) (txWith psbt
+        (insOf (now (file .entry)) (now (pairs .entry)) (now (maps .entry)) psbt)
+        (outsOf (now (file .entry)) (now (pairs .entry)) (now (maps .entry)) psbt) (setSoFar state (now (scripts .entry))) lock) ⌝ }
 {
     match tx_size::tx_len(file, pairs, maps, psbt, state, scripts) {
         Measure::Refused(e) => UnsignedTx::Refused(e),
@@ -148,8 +142,8 @@ fn locked_tx(
                 UnsignedTx::Written {
                     len: len as usize,
                     state: State {
-                        set: state.set,
                         written: true,
+                        ..state
                     },
                 }
             } else {
@@ -170,7 +164,8 @@ fn fit_tx(
     out: &mut [u8],
 ) -> UnsignedTx
     requires { ⌜ AllFit (now file) (now pairs) (now maps) psbt ⌝ }
-    ensures { λ r. ⌜ txOut r (now (out .exit)) ≡ unsignedTx (view (now (file .entry)) (now (pairs .entry)) (now (maps .entry)) psbt) psbt state (now (scripts .entry)) (now (out .entry)) ⌝ }
+    ensures { λ r. ⌜ txOut r (now (out .exit)) ≡ unsignedTx (view (now (file .entry)) (now (pairs .entry)) (now (maps .entry)) psbt) psbt state
+        (now (scripts .entry)) (now (out .entry)) ⌝ }
 {
     if table_fits(file, pairs, maps, psbt, state, scripts) {
         let seen = survey_inputs(file, pairs, maps, psbt);
@@ -201,9 +196,10 @@ pub fn unsigned_tx(
     scripts: &[u8],
     out: &mut [u8],
 ) -> UnsignedTx
-    ensures { λ r. ⌜ toldLeft (toldTx r) (now (out .exit)) ≡ toldTxOut (unsignedTx (view (now (file .entry)) (now (pairs .entry)) (now (maps .entry)) psbt) psbt state (now (scripts .entry)) (now (out .entry))) ⌝ }
+    ensures { λ r. ⌜ toldLeft (toldTx r) (now (out .exit)) ≡ toldTxOut
+        (unsignedTx (view (now (file .entry)) (now (pairs .entry)) (now (maps .entry)) psbt) psbt state (now (scripts .entry)) (now (out .entry))) ⌝ }
 {
-    match all_maps::all_fit(file, pairs, maps, psbt) {
+    match all_maps_fit::all_fit(file, pairs, maps, psbt) {
         Ruled::Refused(e) => UnsignedTx::Refused(e),
         Ruled::Passed => fit_tx(file, pairs, maps, psbt, state, scripts, out),
     }

@@ -51,7 +51,8 @@ two-more s t n h a = rw (le-ltb n 10 h) a
 
 pub ruleset twos = (two-one, two-more)
 
-pub day-text : (s t : Spot) (d : ℕ) (y m : Stand) → y ≡ yearOf d → m ≡ monthOf (y .number) (y .day) → t ≡ lay s (ymdText (y .number) (m .number) (m .day)) → t ≡ lay s (dayText d)
+pub day-text : (s t : Spot) (d : ℕ) (y m : Stand) → y ≡ yearOf d → m ≡ monthOf (y .number) (y .day) → t ≡ lay s (ymdText (y .number) (m .number) (m .day))
+    → t ≡ lay s (dayText d)
 unfolding dayText monthText
 day-text s t d y m p q a =
     a ∙ ap (λ (z : Stand). lay s (monthText (y .number) z)) q

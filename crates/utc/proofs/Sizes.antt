@@ -8,7 +8,8 @@ use lib.ListN.{length, length-append}
 use Rattle.format.proofs.Tests.{pick-by}
 use Rattle.text.proofs.Sizes.{decimal-most, decimal-few}
 use Rattle.utc.specs.declared.Stand.{Stand}
-use Rattle.utc.specs.Dates.{leap, yearLength, isShort, monthLength, yearFrom, yearOf, monthFrom, monthOf, twoDigits, ymdText, monthText, dayText, hourText, dateText}
+use Rattle.utc.specs.Dates.{leap, yearLength, isShort, monthLength, yearFrom, yearOf, monthFrom, monthOf}
+use Rattle.utc.specs.Dates.{twoDigits, ymdText, monthText, dayText, hourText, dateText}
 use Rattle.utc.proofs.Stands.{year-least}
 
 -- a number below 100

@@ -50,10 +50,11 @@ twoDigits n = pick (ltb n 10) (say "0" ++ decimal n) (decimal n)
 unfoldable pub ymdText : ℕ → ℕ → ℕ → List ℕ
 ymdText y m d = decimal y ++ (say "-" ++ (twoDigits m ++ (say "-" ++ twoDigits d)))
 
--- the same of day d of a year, and of day d counted from 1 at the start of 1970
+-- the same of a month and a day of year y
 unfoldable pub monthText : ℕ → Stand → List ℕ
 monthText y m = ymdText y (m .number) (m .day)
 
+-- the same of day d, counted from 1 at the start of 1970
 unfoldable pub dayText : ℕ → List ℕ
 dayText d = monthText (yearOf d .number) (monthOf (yearOf d .number) (yearOf d .day))
 

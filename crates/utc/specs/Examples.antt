@@ -3,7 +3,8 @@ use mathlib.Core.Path.{_≡_, refl}
 use mathlib.Core.List.{[], _∷_, map}
 use Rattle.text.specs.Say.{say}
 use Rattle.text.specs.Spelled.{digit, decimalIn, decimal}
-use Rattle.utc.specs.Dates.{leap, yearLength, isShort, monthLength, yearFrom, yearOf, monthFrom, monthOf, twoDigits, ymdText, monthText, dayText, hourText, dateText}
+use Rattle.utc.specs.Dates.{leap, yearLength, isShort, monthLength, yearFrom, yearOf, monthFrom, monthOf}
+use Rattle.utc.specs.Dates.{twoDigits, ymdText, monthText, dayText, hourText, dateText}
 
 -- the first second, the last of the first day, the next day, a leap day of a year of hundreds, a day of 2023, the last second of 32 bits
 pub date-example : map dateText (0 ∷ 86399 ∷ 86400 ∷ 951782400 ∷ 1700000000 ∷ 4294967295 ∷ [])

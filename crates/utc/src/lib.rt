@@ -5,23 +5,35 @@ ghost use Rattle.utc.specs.Dates.{leap, yearLength, isShort, monthLength
 use text::put;
 use text::put_decimal;
 
+// The year that the seconds are counted from.
+const FIRST_YEAR: u64 = 1970;
+
+// How many months a year has.
+const MONTHS: u64 = 12;
+
+// The seconds of a minute, which are also the minutes of an hour.
+const SIXTY: u64 = 60;
+
+// The seconds of an hour.
+const HOUR: u64 = 3_600;
+
+// The hours of a day.
+const HOURS: u64 = 24;
+
+// The seconds of a day.
+const DAY: u64 = 86_400;
+
 // A year or a month, and a day's number in it, from 1.
 pub struct Stand {
     pub number: u64,
     pub day: u64,
 }
 
-// The leap rule.
+// Whether a year has 366 days: every fourth but three of four at the hundreds.
 fn is_leap(y: u64) -> bool
     ensures { λ r. ⌜ r ≡ leap y ⌝ }
 {
-    if y % 400 == 0 {
-        return true;
-    }
-    if y % 100 == 0 {
-        return false;
-    }
-    y % 4 == 0
+    y % 400 == 0 || y % 100 != 0 && y % 4 == 0
 }
 
 // How many days a year has.
@@ -34,7 +46,7 @@ fn year_length(y: u64) -> u64
     365
 }
 
-// April, June, September, November.
+// Whether a month has 30 days: April, June, September, November.
 fn is_short(m: u64) -> bool
     ensures { λ r. ⌜ r ≡ isShort m ⌝ }
 {
@@ -70,7 +82,7 @@ fn month_length(y: u64, m: u64) -> u64
 fn year_of(day: u64) -> Stand
     ensures { λ r. ⌜ r ≡ yearOf day ⌝ }
 {
-    let mut y: u64 = 1970;
+    let mut y = FIRST_YEAR;
     let mut d = day;
     let mut long = year_length(y);
     while long < d {
@@ -87,7 +99,7 @@ fn month_of(year: u64, day: u64) -> Stand
 {
     let mut m: u64 = 1;
     let mut d = day;
-    while m < 12 {
+    while m < MONTHS {
         let long = month_length(year, m);
         if d <= long {
             return Stand { number: m, day: d };
@@ -133,18 +145,18 @@ fn put_day(out: &mut [u8], at: usize, day: u64) -> usize
 fn put_hour(out: &mut [u8], at: usize, s: u64) -> usize
     ensures { λ r. ⌜ spot r (now (out .exit)) ≡ lay (spot at (now (out .entry))) (hourText s) ⌝ }
 {
-    let to = put_two(out, at, s / 3600 % 24);
+    let to = put_two(out, at, s / HOUR % HOURS);
     let to = put(out, to, b":");
-    let to = put_two(out, to, s / 60 % 60);
+    let to = put_two(out, to, s / SIXTY % SIXTY);
     let to = put(out, to, b":");
-    put_two(out, to, s % 60)
+    put_two(out, to, s % SIXTY)
 }
 
 // `1970-01-01 00:00:00 UTC`
 pub fn put_date(out: &mut [u8], at: usize, s: u64) -> usize
     ensures { λ r. ⌜ spot r (now (out .exit)) ≡ lay (spot at (now (out .entry))) (dateText s) ⌝ }
 {
-    let to = put_day(out, at, s / 86400 + 1);
+    let to = put_day(out, at, s / DAY + 1);
     let to = put(out, to, b" ");
     let to = put_hour(out, to, s);
     put(out, to, b" UTC")

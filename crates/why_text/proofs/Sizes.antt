@@ -14,13 +14,17 @@ use Rattle.format.specs.declared.Psbt.{Psbt}
 use Rattle.format.specs.declared.Numbered.{Numbered}
 use Rattle.format.specs.declared.Parsed.the-variants.{Accepted, Refused}
 use Rattle.format.proofs.Tests.{pick-by}
-use Rattle.text.specs.Limits.{longest, mostMaps}
-use Rattle.dump_text.specs.Dump.{fresh}
-use Rattle.dump_text.proofs.Contents.{zeros-long}
-use Rattle.dump_text.proofs.Sizes.{reports-few}
+use Rattle.rooms.specs.Limits.{longest, mostMaps}
+use Rattle.rooms.specs.Rooms.{fresh}
+use Rattle.rooms.proofs.Zeros.{zeros-long}
+use Rattle.rooms.proofs.Taken.{reports-few}
 use Rattle.reasons.proofs.Sizes.{refused-most}
+use Rattle.stop_lines.specs.Stops.{stopped}
+use Rattle.stop_lines.proofs.Sizes.{stop-most}
 use Rattle.lock_lines.proofs.Sizes.{head-most, input-most, verdict-most}
-use Rattle.why_text.specs.Why.{heightAsked, timeAsked, inputsText, answered, acceptedText, parsedText, whyIn, why}
+use Rattle.heed_lines.specs.Heeds.{heedOf}
+use Rattle.heed_lines.proofs.Sizes.{heed-most}
+use Rattle.why_text.specs.Why.{heightAsked, timeAsked, inputsText, answered, acceptedText, refusedText, parsedText, whyIn, why}
 
 -- the inputs' lines
 inputs-most : (h t : ℕ → Numbered) (i n : ℕ) → i + n ≤ 1000 → length (inputsText h t i n) ≤ 115 * n
@@ -35,14 +39,15 @@ accepted-most f P M s B h =
     let a = head-most (s .inputs) (s .«fallback_locktime») in
     let b = inputs-most (heightAsked f P M s) (timeAsked f P M s) 0 (s .inputs) (omega arith) in
     let c = verdict-most (lockDecided (view f P M s) s) (answered (unsignedTx (view f P M s) s fresh [] B)) in
-    simp length-append (omega (arith, a, b, c))
+    let d = heed-most (lockDecided (view f P M s) s) (heedOf f P M s) in
+    simp length-append (omega (arith, a, b, c, d))
 
 in-most : (P M B f : List ℕ) → length M ≤ mostMaps * mapWords → length (whyIn P M B f) ≤ 30720
-unfolding whyIn parsedText
+unfolding whyIn parsedText refusedText
 in-most P M B f h = by (parsed f P M) refl
   where
     by : (o : ParseOut) → parsed f P M ≡ o → length (parsedText B f o) ≤ 30720
-    by (out (Refused e p m) P′ M′) q = omega (arith, refused-most e)
+    by (out (Refused e p m) P′ M′) q = simp length-append (omega (arith, refused-most e, stop-most (stopped f P′ M′ e p m)))
     by (out (Accepted s p m) P′ M′) q = accepted-most f P′ M′ s B (omega (arith, reports-few f P M s p m P′ M′ q))
 
 -- so of every file

@@ -1,4 +1,5 @@
--- Laws of the whole text: by what the inputs ask, by the lock's and the transaction's answer, by the parse, by the file's length.
+-- Laws of the whole text: by what the inputs ask, by the lock's and the transaction's answer, by what the network makes of the lock, by the parse,
+-- by the file's length.
 use mathlib.Core.Path.{_≡_, refl, sym, _∙_, ap, ap₂}
 use mathlib.Core.List.{List, []}
 use Prim.Native.Nat.{ℕ, suc, _+_, _-_, _≤_, _<_}
@@ -21,11 +22,14 @@ use Rattle.format.specs.declared.Parsed.the-variants.{Accepted, Refused}
 use Rattle.format.proofs.Told.{numbered-one, lock-one, parse-out-one, tx-out-one}
 use Rattle.text.specs.Spots.{Spot, spot, lay}
 use Rattle.text.proofs.Lays.{lay-then}
-use Rattle.text.specs.Limits.{longest}
-use Rattle.dump_text.specs.Dump.{pairRoom, mapRoom, txRoom, fresh}
+use Rattle.text.proofs.Chains.{chain4}
+use Rattle.rooms.specs.Limits.{longest}
+use Rattle.rooms.specs.Rooms.{pairRoom, mapRoom, txRoom, fresh}
 use Rattle.reasons.specs.Reasons.{refusedLine}
 use Rattle.lock_lines.specs.Lines.{headLine, inputLine, verdict}
-use Rattle.why_text.specs.Why.{heightAsked, timeAsked, inputsText, answered, acceptedText, parsedText, whyIn, why}
+use Rattle.heed_lines.specs.declared.Heed.{Heed}
+use Rattle.heed_lines.specs.Heeds.{heedOf, heedLine}
+use Rattle.why_text.specs.Why.{heightAsked, timeAsked, inputsText, answered, acceptedText, refusedText, parsedText, whyIn, why}
 
 -- the lines of the n inputs from number i on
 abbrev lines : List ℕ → List ℕ → List ℕ → Psbt → ℕ → ℕ → List ℕ
@@ -59,16 +63,21 @@ module _ (at : ℕ) (D₀ f P M : List ℕ) (s : Psbt) (to : ℕ) (D : List ℕ)
 
 pub ruleset asking = (asks-first, asks-done, asks-more)
 
--- the head, the inputs, the verdict
-pub accepted-text : (s t₁ t₂ t₃ : Spot) (f P M : List ℕ) (x : Psbt) (B B′ : List ℕ) (a : UnsignedTx) (l : Lock)
+-- the head, the inputs, the verdict, and what the network makes of it
+pub accepted-text : (s t₁ t₂ t₃ t₄ : Spot) (f P M : List ℕ) (x : Psbt) (B B′ : List ℕ) (a : UnsignedTx) (l : Lock) (h : Heed)
     → t₁ ≡ lay s (headLine (x .inputs) (x .«fallback_locktime»)) → t₂ ≡ lay t₁ (inputsText (heightAsked f P M x) (timeAsked f P M x) 0 (x .inputs))
-    → toldLeft (toldTx a) B′ ≡ toldTxOut (unsignedTx (view f P M x) x fresh [] B) → toldLock l ≡ toldLock (lockDecided (view f P M x) x) → t₃ ≡ lay t₂ (verdict l a)
-    → t₃ ≡ lay s (acceptedText f P M x B)
+    → toldLeft (toldTx a) B′ ≡ toldTxOut (unsignedTx (view f P M x) x fresh [] B)
+    → toldLock l ≡ toldLock (lockDecided (view f P M x) x) → t₃ ≡ lay t₂ (verdict l a)
+    → h ≡ heedOf f P M x → t₄ ≡ lay t₃ (heedLine l h)
+    → t₄ ≡ lay s (acceptedText f P M x B)
 unfolding acceptedText answered toldTxOut
-accepted-text s t₁ t₂ t₃ f P M x B B′ a l p q e d r =
-    lay-then _ _ _ _ _ p
-    (lay-then _ _ _ _ _ q
-    (r ∙ ap₂ (λ (k : Lock) (o : TxOut). lay t₂ (verdict k (answered o))) (lock-one l (lockDecided (view f P M x) x) d) (tx-out-one (txOut a B′) (unsignedTx (view f P M x) x fresh [] B) e)))
+accepted-text s t₁ t₂ t₃ t₄ f P M x B B′ a l h p q e d r k w =
+    let m : l ≡ lockDecided (view f P M x) x = lock-one l (lockDecided (view f P M x) x) d in
+    let o : txOut a B′ ≡ unsignedTx (view f P M x) x fresh [] B = tx-out-one (txOut a B′) (unsignedTx (view f P M x) x fresh [] B) e in
+    chain4 s t₁ t₂ t₃ t₄ _ _ _ _ _ p q
+    (r ∙ ap₂ (λ (k : Lock) (o : TxOut). lay t₂ (verdict k (answered o))) m o)
+    (w ∙ ap₂ (λ (k : Lock) (h : Heed). lay t₃ (heedLine k h)) m k)
+    refl
 
 -- by the parse
 module _ (s t : Spot) (f P M B P′ M′ : List ℕ) (r : Parsed) (e : toldWith (toldParsed r) P′ M′ ≡ toldParse (parsed f P M)) where
@@ -76,7 +85,7 @@ module _ (s t : Spot) (f P M B P′ M′ : List ℕ) (r : Parsed) (e : toldWith 
   unfolding whyIn toldParse
   text-is = ap (parsedText B f) (parse-out-one (out r P′ M′) (parsed f P M) e)
 
-  pub parsed-refused : (x : PsbtError) (p m : ℕ) → r ≡ Refused x p m → t ≡ lay s (refusedLine x) → t ≡ lay s (whyIn P M B f)
+  pub parsed-refused : (x : PsbtError) (p m : ℕ) → r ≡ Refused x p m → t ≡ lay s (refusedText f P′ M′ x p m) → t ≡ lay s (whyIn P M B f)
   unfolding parsedText
   parsed-refused x p m w h = h ∙ ap (lay s) (sym (ap (λ (r : Parsed). parsedText B f (out r P′ M′)) w) ∙ text-is)
 

@@ -1,26 +1,28 @@
-// The text that `why` prints of a file: what its inputs ask of the lock, what decided it, and whether a transaction is given.
-use dump_text::file_room;
-use dump_text::map_room;
-use dump_text::pair_room;
-use dump_text::tx_room;
+// The text that `why` prints of a file: what its inputs ask of the lock, what decided it, whether a transaction is given, and whether the network
+// heeds the lock; of a refused file what refused it, and where.
 use format::Parsed;
 use format::Psbt;
 use format::PsbtError;
 use format::State;
+use heed_lines::heed_of;
+use heed_lines::put_heed;
 use lock_lines::put_head;
 use lock_lines::put_input;
 use lock_lines::put_verdict;
 use reasons::put_refused;
+use rooms::LONGEST;
+use rooms::file_room;
+use rooms::map_room;
+use rooms::pair_room;
+use rooms::tx_room;
+use stop_lines::put_stop;
 use typed::input::required_height_locktime;
 use typed::input::required_time_locktime;
 ghost use mathlib.Core.Path.{_≡_};
 ghost use Prim.Native.Nat.{_≤_};
 ghost use lib.ListN.{length, take};
 ghost use Rattle.text.specs.Spots.{spot, lay};
-ghost use Rattle.why_text.specs.Why.{heightAsked, timeAsked, inputsText, acceptedText, whyIn, why};
-
-// The longest file that is read, in bytes.
-const MOST: usize = 65536;
+ghost use Rattle.why_text.specs.Why.{heightAsked, timeAsked, inputsText, acceptedText, refusedText, whyIn, why};
 
 // What all inputs ask for, a line each.
 fn put_inputs(
@@ -31,7 +33,9 @@ fn put_inputs(
     maps: &[u32],
     psbt: Psbt,
 ) -> usize
-    ensures { λ r. ⌜ spot r (now (out .exit)) ≡ lay (spot at (now (out .entry))) (inputsText (heightAsked (now (file .entry)) (now (pairs .entry)) (now (maps .entry)) psbt) (timeAsked (now (file .entry)) (now (pairs .entry)) (now (maps .entry)) psbt) 0 (psbt .inputs)) ⌝ }
+    ensures { λ r. ⌜ spot r (now (out .exit))
+        ≡ lay (spot at (now (out .entry))) (inputsText (heightAsked (now (file .entry)) (now (pairs .entry)) (now (maps .entry)) psbt)
+        (timeAsked (now (file .entry)) (now (pairs .entry)) (now (maps .entry)) psbt) 0 (psbt .inputs)) ⌝ }
 {
     let mut to = at;
     let mut i: u64 = 0;
@@ -54,7 +58,8 @@ fn put_accepted(
     psbt: Psbt,
     tx: &mut [u8],
 ) -> usize
-    ensures { λ r. ⌜ spot r (now (out .exit)) ≡ lay (spot at (now (out .entry))) (acceptedText (now (file .entry)) (now (pairs .entry)) (now (maps .entry)) psbt (now (tx .entry))) ⌝ }
+    ensures { λ r. ⌜ spot r (now (out .exit))
+        ≡ lay (spot at (now (out .entry))) (acceptedText (now (file .entry)) (now (pairs .entry)) (now (maps .entry)) psbt (now (tx .entry))) ⌝ }
 {
     let fallback = psbt.fallback_locktime;
     let to = put_head(out, at, psbt.inputs, fallback);
@@ -65,7 +70,27 @@ fn put_accepted(
     };
     let x = unsigned_tx::unsigned_tx(file, pairs, maps, psbt, fresh, &file[..0], tx);
     let lock = lock::lock_decided(file, pairs, maps, psbt);
-    put_verdict(out, to, lock, x)
+    let to = put_verdict(out, to, lock, x);
+    let heed = heed_of(file, pairs, maps, psbt);
+    put_heed(out, to, lock, heed)
+}
+
+// The text of a refused file: what the refusal means, and where the parse stopped.
+fn put_refusal(
+    out: &mut [u8],
+    at: usize,
+    file: &[u8],
+    pairs: &[u32],
+    maps: &[u32],
+    e: PsbtError,
+    p: usize,
+    m: usize,
+) -> usize
+    ensures { λ r. ⌜ spot r (now (out .exit)) ≡ lay (spot at (now (out .entry)))
+        (refusedText (now (file .entry)) (now (pairs .entry)) (now (maps .entry)) e p m) ⌝ }
+{
+    let to = put_refused(out, at, e);
+    put_stop(out, to, file, pairs, maps, e, p, m)
 }
 
 // The text of a file, parsed into these tables and with this room for the transaction.
@@ -77,7 +102,8 @@ fn put_parsed(
     maps: &mut [u32],
     tx: &mut [u8],
 ) -> usize
-    ensures { λ r. ⌜ spot r (now (out .exit)) ≡ lay (spot at (now (out .entry))) (whyIn (now (pairs .entry)) (now (maps .entry)) (now (tx .entry)) (now (file .entry))) ⌝ }
+    ensures { λ r. ⌜ spot r (now (out .exit))
+        ≡ lay (spot at (now (out .entry))) (whyIn (now (pairs .entry)) (now (maps .entry)) (now (tx .entry)) (now (file .entry))) ⌝ }
 {
     match psbt::parse(file, pairs, maps) {
         Parsed::Accepted {
@@ -87,9 +113,9 @@ fn put_parsed(
         } => put_accepted(out, at, file, pairs, maps, psbt, tx),
         Parsed::Refused {
             error,
-            pairs: _,
-            maps: _,
-        } => put_refused(out, at, error),
+            pairs: p,
+            maps: m,
+        } => put_refusal(out, at, file, pairs, maps, error, p, m),
     }
 }
 
@@ -97,7 +123,7 @@ fn put_parsed(
 pub fn put_why(out: &mut [u8], at: usize, file: &[u8]) -> usize
     ensures { λ r. ⌜ spot r (now (out .exit)) ≡ lay (spot at (now (out .entry))) (why (now (file .entry))) ⌝ }
 {
-    if MOST < file.len() {
+    if LONGEST < file.len() {
         return put_refused(out, at, PsbtError::TooLong);
     }
     let mut pairs = pair_room();

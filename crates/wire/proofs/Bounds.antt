@@ -101,7 +101,13 @@ module _ (s : List ℕ) (p : ℕ) (o : Prefixed) (at : o ≡ prefixedAt s p) whe
             let x : v ≡ n = cc in
             let y : cursor (p + u + v) ≡ c = cc in
             let w : p + u ≡ a = cc in
-            record { used = u; is = rw x at q; room = rw x at (leb-true v (remaining s (p + u)) t); start = sym w; next = rw x at (sym (ap (λ (d : Cursor). d .pos) y)) })
+            record {
+              used = u;
+              is = rw x at q;
+              room = rw x at (leb-true v (remaining s (p + u)) t);
+              start = sym w;
+              next = rw x at (sym (ap (λ (d : Cursor). d .pos) y));
+            })
             (λ t (h : o ≡ P.Bad UnexpectedEof). let z : _≡_ {A = ℕ} 0 1 = cc in absurd (omega arith)) (behind-by (Z.Read v u) q)
 
     pub prefixed-next : c .pos ≡ a + n

@@ -3,3 +3,4 @@ pub mod Leads
 pub mod Sizes
 pub mod Bounds
 pub mod Cursors
+pub mod Signs

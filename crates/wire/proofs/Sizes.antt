@@ -89,11 +89,13 @@ module _ (w b : ℕ) (e : w ≡ width b) where
   long-fits = record { fits = omega (arith, long-most) }
 
 -- the rest behind the first byte, as the code has it
-pub size-long : (s : List ℕ) (o : Size) (w v : ℕ) → Long s → w ≡ width (getD s 0 0) → v ≡ lead w (take (length s - 1) (drop 1 s)) → o ≡ spelled (length s) (w + 1) v → o ≡ size s
+pub size-long : (s : List ℕ) (o : Size) (w v : ℕ) → Long s
+    → w ≡ width (getD s 0 0) → v ≡ lead w (take (length s - 1) (drop 1 s)) → o ≡ spelled (length s) (w + 1) v → o ≡ size s
 size-long s o w v is e f g =
     let r = take (length s - 1) (drop 1 s) in
     let l : length s ≡ suc (length r) = rw (part-rest 1 s, length-drop) (omega (arith, is .some)) in
-    g ∙ ap (λ (n : ℕ). spelled (length s) n v) (add-one w) ∙ long-spelled (length s) w v r l f ∙ sym (size-cons s (is .some) ∙ size-width (getD s 0 0) r (is .above) ∙ ap (λ (n : ℕ). long n r) (sym e))
+    g ∙ ap (λ (n : ℕ). spelled (length s) n v) (add-one w) ∙ long-spelled (length s) w v r l f
+    ∙ sym (size-cons s (is .some) ∙ size-width (getD s 0 0) r (is .above) ∙ ap (λ (n : ℕ). long n r) (sym e))
 
 pub ruleset longs = (long-most, long-fits, size-long)
 

@@ -4,11 +4,12 @@ use format::Size;
 ghost use mathlib.Core.Path.{_≡_};
 ghost use Prim.Native.Nat.{_≤_};
 ghost use lib.ListN.{length};
-ghost use Rattle.format.specs.Numbers.{le};
+ghost use Rattle.format.specs.Numbers.{le, signed};
 ghost use Rattle.format.specs.Compact.{size, count, countBy};
 ghost use Rattle.wire.specs.Leads.{lead, spelled, width, Long};
 ghost use Rattle.wire.specs.Cursors.{cursor, remaining, takeAt, sizeAt, prefixedAt};
 
+// A byte as a number of 64 bits.
 fn wide(x: u8) -> u64
     ensures { λ r. ⌜ r ≡ x ⌝ }
 {
@@ -38,17 +39,29 @@ fn lead(s: &[u8], w: usize) -> u64
     if w <= s.len() { le(&s[..w]) } else { le(s) }
 }
 
-// The same at the widths in use.
+// The number of the first four bytes.
 pub fn u32_from_le_bytes(s: &[u8]) -> u32
     ensures { λ r. ⌜ r ≡ lead 4 (now (s .entry)) ⌝ }
 {
     lead(s, 4) as u32
 }
 
+// The number of the first eight bytes.
 pub fn u64_from_le_bytes(s: &[u8]) -> u64
     ensures { λ r. ⌜ r ≡ lead 8 (now (s .entry)) ⌝ }
 {
     lead(s, 8)
+}
+
+// 32 bits read as a signed number.
+pub fn signed(x: u32) -> i32
+    ensures { λ r. ⌜ r ≡ signed x ⌝ }
+{
+    if x < 0x8000_0000 {
+        x as i32
+    } else {
+        (x - 0x8000_0000) as i32 + (-0x7fff_ffff - 1)
+    }
 }
 
 // A number that `used` of `len` bytes spell: the refusal where there are fewer.
@@ -129,6 +142,7 @@ pub enum Prefixed {
 }
 
 impl Cursor {
+    // The cursor at a place.
     pub fn new(pos: usize) -> Self
         ensures { λ r. ⌜ r ≡ cursor pos ⌝ }
     {

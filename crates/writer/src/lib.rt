@@ -50,7 +50,7 @@ pub fn put_size(buf: &mut [u8], at: usize, n: u64)
     put_tagged(buf, at, 0xff, n, 8);
 }
 
-// How many bytes it takes.
+// How many bytes the shortest compact size of `n` takes.
 pub fn size_len(n: u64) -> usize
     ensures { λ r. ⌜ r ≡ sizeLength n ⌝ }
 {
@@ -83,7 +83,7 @@ pub fn bits_of(v: i32) -> u64
     ensures { λ r. ⌜ r ≡ unsigned v ⌝ }
 {
     if v < 0 {
-        (v as i64 + 4294967296) as u64
+        (v as i64 + 0x1_0000_0000) as u64
     } else {
         v as u64
     }

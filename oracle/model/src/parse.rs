@@ -86,7 +86,7 @@ fn end_of(file: &[u8], at: usize, length: u64) -> Option<usize> {
 }
 
 /// A count field's value. Its first byte counts as read even where the rest of the size is missing.
-fn count(value: &[u8]) -> Result<u64, u32> {
+pub fn count(value: &[u8]) -> Result<u64, u32> {
     let Some((first, rest)) = value.split_first() else { return Err(EOF) };
     let wanted = more(*first);
     if rest.len() == wanted {

@@ -1,4 +1,5 @@
--- `dump_text::put_maps` meets its contract. The loop's invariant: the lines of the maps from `m` on, put from here, give all. The measure is the number of maps left.
+-- `dump_text::put_maps` meets its contract. The loop's invariant: the lines of the maps from `m` on, put from here, give all.
+-- The measure is the number of maps left.
 use borrow.Author.Needs.{needs}
 use Prim.Native.Nat.{_-_}
 use Rattle.format.specs.Tables.{mapsReported}

@@ -1,4 +1,5 @@
--- `dump_text::put_pairs` meets its contract. The loop's invariant: the lines of the pairs from `i` on, put from here, give all. The measure is the number of pairs left.
+-- `dump_text::put_pairs` meets its contract. The loop's invariant: the lines of the pairs from `i` on, put from here, give all.
+-- The measure is the number of pairs left.
 use borrow.Author.Needs.{needs}
 use Rattle.fitness.specs.Fits.{entriesOf}
 use Rattle.dump_text.proofs.Walks.{Listing, lists}

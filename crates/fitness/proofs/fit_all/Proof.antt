@@ -1,4 +1,5 @@
--- `fitness::fit_all` meets its contract. The loop's invariant: what is asked from pair `i` on, behind `last`, is what is asked of all. The measure is the number of pairs left.
+-- `fitness::fit_all` meets its contract. The loop's invariant: what is asked from pair `i` on, behind `last`, is what
+-- is asked of all. The measure is the number of pairs left.
 use borrow.Author.Needs.{needs}
 use Rattle.fitness.proofs.Walks.{Fitting, fittings}
 use Rattle.fitness.specs.Fits.{entriesOf}

@@ -1,4 +1,5 @@
--- `keys::compare_blocks` meets its contract, from the place behind the equal blocks on. The loop's invariant: the order from `i` on is that of the whole. The measure is what is left of `a`.
+-- `keys::compare_blocks` meets its contract, from the place behind the equal blocks on. The loop's
+-- invariant: the order from `i` on is that of the whole. The measure is what is left of `a`.
 use Prim.Native.Nat.{_-_}
 use borrow.Author.Needs.{needs}
 use lib.ListN.{length}

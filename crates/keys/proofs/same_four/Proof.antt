@@ -8,7 +8,8 @@ returns-4 : tie.Need-returns-4
 returns-4 c =
     let w = c .before .before .before in
     let s = w .before .before in
-    front-more _ _ _ (s .before .before .pre) _ _ _ (w .before .if1 .left) (w .if2 .left) (c .before .before .four-at .ensures) (c .before .four-at2 .ensures) (c .if3 .left)
+    front-more _ _ _ (s .before .before .pre) _ _ _ (w .before .if1 .left)
+    (w .if2 .left) (c .before .before .four-at .ensures) (c .before .four-at2 .ensures) (c .if3 .left)
     (s .before .shared-slice-known .given) (s .shared-slice-known2 .given)
 
 -- needs: needs, blocks

@@ -1,4 +1,5 @@
--- `keys::same_front` meets its contract. The loop's invariant: the order from `i` on is that of the whole, and `i` stays in `a`. The measure is what is left of `a`.
+-- `keys::same_front` meets its contract. The loop's invariant: the order from `i` on is that of the
+-- whole, and `i` stays in `a`. The measure is what is left of `a`.
 use Prim.Native.Nat.{_-_}
 use borrow.Author.Needs.{needs}
 use lib.ListN.{length}

@@ -1,4 +1,5 @@
--- `lock::all_asks` meets its contract. The loop's invariant: what the inputs from number `i` on add is what all ask for. The measure is the number of inputs left.
+-- `lock::all_asks` meets its contract. The loop's invariant: what the inputs from number `i` on add is what all ask
+-- for. The measure is the number of inputs left.
 use Prim.Native.Nat.{_-_}
 use borrow.Author.Needs.{needs}
 use Rattle.lock.proofs.Locks.{Walking, walks}

@@ -9,7 +9,6 @@ pub see-input-spec : {M : Type 1} → statement M
 see-input-spec =
     tie.close
     (tie.spec
-    (λ c. search (needs, sees))
     (λ c κs. search (needs, sees))
     (λ c κs. search (needs, sees))
     (λ c κs. search (needs, sees))

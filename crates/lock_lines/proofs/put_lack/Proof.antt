@@ -10,6 +10,7 @@ put-lack-spec =
     tie.close
     (tie.spec
     (λ c κs. search (needs, lacks))
+    (λ c κs. search (needs, lacks))
     (λ c. search (needs, lacks))
     (λ c κs. search (needs, lacks))
     (λ c. search (needs, lacks))

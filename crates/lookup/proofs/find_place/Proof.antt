@@ -1,4 +1,5 @@
--- `lookup::find_place` meets its contract. The loop's invariant: where the key's value stands from pair `i` on is where it stands. The measure is the number of pairs left.
+-- `lookup::find_place` meets its contract. The loop's invariant: where the key's value stands from pair `i` on is where
+-- it stands. The measure is the number of pairs left.
 use borrow.Author.Needs.{needs}
 use Rattle.format.specs.Keys.{keyOf}
 use Rattle.fitness.specs.Fits.{entriesOf}

@@ -13,7 +13,7 @@ is-filled-spec =
     (λ c. search (needs, fills))
     (λ c. search (needs, fills))
     (λ c. search (needs, fills))
-    (λ c. search (needs, fills))
     (λ c κs. search (needs, fills))
+    (λ c. search (needs, fills))
     (λ c. search (needs, fills))
     (λ c. search (needs, fills)))

@@ -9,8 +9,6 @@ pub has-script-spec : {M : Type 1} → statement M
 has-script-spec =
     tie.close
     (tie.spec
-    (λ c. search (needs, scripts-there))
-    (λ c. search (needs, scripts-there))
     (λ c κs. search (needs, scripts-there))
     (λ c κs. search (needs, scripts-there))
     (λ c. search (needs, scripts-there))

@@ -10,5 +10,4 @@ is-settable-spec =
     tie.close
     (tie.spec
     (λ c. search (needs, settables))
-    (λ c. search (needs, settables))
     (λ c. search (needs, settables)))

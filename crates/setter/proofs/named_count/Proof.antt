@@ -14,7 +14,14 @@ abbrev μ-loop : tie.MeasureT-loop
 loop-again : tie.Need-loop-again Inv-loop μ-loop
 loop-again c =
     let w = c .before .before .before in
-    search (count-one, c .if1 .taken, c .before .before .record-at .ensures, w .loop-test .taken, w .before .loop .inv, w .before .before .record-count .ensures)
+    search (
+      count-one,
+      c .if1 .taken,
+      c .before .before .record-at .ensures,
+      w .loop-test .taken,
+      w .before .loop .inv,
+      w .before .before .record-count .ensures,
+    )
 
 -- needs: needs, counts
 pub named-count-spec : {M : Type 1} → statement M

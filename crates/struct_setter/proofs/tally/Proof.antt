@@ -1,5 +1,6 @@
 -- `struct_setter::tally` meets its contract: a walk of its MIR, by hand, since a slice of structs is lent. Of `note` it knows only that it meets its contract.
--- The loop's variant carries its facts: the number k of the record, the answer so far with its machine value, and that the records from k on take it to what all take the first to.
+-- The loop's variant carries its facts: the number k of the record, the answer so far with its machine value, and that the records from k on
+-- take it to what all take the first to.
 -- A turn looks into the slice, copies record k, puts it back, and calls `note` on it with a copy of the buffer's reference.
 use mathlib.Core.Path.{_≡_, refl, sym, _∙_, ap}
 use Prim.Native.Nat.{ℕ, _+_, _-_, _*_, _<_, _^_}
@@ -23,10 +24,12 @@ use prog.Wp.{Heap, Out, Env, afterSeq, afterBlock, afterTurn, Calls, Loops, Wp, 
 use ghost.Atoms.{Atoms, sem}
 use contract.Monad.{Fun, fact}
 use contract.Running.{givenOf, tables, tablesOf}
-use types.Kit.{Given, Item, ‵, raw, _⊛_, ⋆, some, later, runs, anyQ, atRet, Sq, _$_, _∵_, !, qed, by, move, keep, drop, use1, use2, split, join, pick, rewrite, fsplit, fjoin, suffices, frame, await, done}
+use types.Kit.{Given, Item, ‵, raw, _⊛_, ⋆, some, later, runs, anyQ, atRet, Sq, _$_, _∵_, !, qed, by, move, keep, drop}
+use types.Kit.{use1, use2, split, join, pick, rewrite, fsplit, fjoin, suffices, frame, await, done}
 use types.Part.{whole, sub, look-in}
 use types.Share.{arr-parts}
-use types.Run.{look, look-raw, store, init, forget, stop, hop, fld, from, load, lit, of-opd, bin, and-then, no-more, assigns, assigns-last, land, first, blocks, stays, leaves-loop, exec, returns, enter, alloc1, alloc0, params1, pass1, pass0, free1, free0, Below, again, loops}
+use types.Run.{look, look-raw, store, init, forget, stop, hop, fld, from, load, lit, of-opd, bin, and-then, no-more, assigns, assigns-last, land, first}
+use types.Run.{blocks, stays, leaves-loop, exec, returns, enter, alloc1, alloc0, params1, pass1, pass0, free1, free0, Below, again, loops}
 use sound.WpLaws.{fmOf, WpFn-mono}
 use denote.RattleType.{owns}
 use denote.Laws.{Is, shows}
@@ -56,6 +59,7 @@ use Rattle.format.proofs.Psbt.Laws as P′
 use Rattle.setter.specs.Records.{noRecord}
 use Rattle.struct_setter.specs.Turns.{noted, tallied}
 use Rattle.struct_setter.specs.declared.Task.{Task}
+use Rattle.struct_setter.proofs.Steps.{count, here, local}
 use Rattle.struct_setter.proofs.Tallies.{tally-more, tally-done}
 use Rattle.struct_setter.proofs.Task as K
 use Rattle.struct_setter.proofs.Task.Laws as K′
@@ -107,7 +111,9 @@ module _ {M : Type 1} (𝓤 : URA M) (H : Heap 𝓤) (A : Atoms 𝓤) (mem : Mem
   abbrev Note : Contract 𝓤
   Note = tripleOf 𝓤 H A note.signature (note.spec 𝓤 H A mem run)
 
-module _ {M : Type 1} (𝓤 : URA M) (H : Heap 𝓤) (A : Atoms 𝓤) (W : Given 𝓤 H A) (mem : Memory → SProp 𝓤) (run : Routine → Fun 𝓤) (κ κ₂ : Lft) (q q₂ : Share) (b o : ℕ) (γ : GName) (ys : List Assignment) (buf : RefT (List ℕ)) (ps : Psbt) (vp : Val) (isp : Is P.the-row ps (vp ∷ [])) (s₀ : Task) (v₀ : Val) (is₀ : Is K.the-row s₀ (v₀ ∷ [])) where
+module _ {M : Type 1} (𝓤 : URA M) (H : Heap 𝓤) (A : Atoms 𝓤) (W : Given 𝓤 H A) (mem : Memory → SProp 𝓤) (run : Routine → Fun 𝓤) (κ κ₂ : Lft) (q q₂ : Share)
+    (b o : ℕ) (γ : GName) (ys : List Assignment) (buf : RefT (List ℕ)) (ps : Psbt) (vp : Val) (isp : Is P.the-row ps (vp ∷ [])) (s₀ : Task) (v₀ : Val)
+    (is₀ : Is K.the-row s₀ (v₀ ∷ [])) where
   -- how many records, and the machine value of the buffer
   abbrev n : ℕ
   n = length ys
@@ -128,14 +134,20 @@ module _ {M : Type 1} (𝓤 : URA M) (H : Heap 𝓤) (A : Atoms 𝓤) (W : Given
   abbrev to : Task → Val → Assignment → Note 𝓤 H A mem run .Ghost
   to s v d = (((κ₂, tt), (q₂, tt), tt, (buf, (ps, (s, (d, tt)))), (mb ∷ [], (vp ∷ [], (v ∷ [], (valsA d, tt))))), tt)
 
-  asked : (s : Task) (v : Val) (d : Assignment) → Is K.the-row s (v ∷ []) → Is T.the-row d (valsA d) → ent 𝓤 (sep 𝓤 (A .lft κ₂ q₂) (sem 𝓤 H A OwnB)) (Note 𝓤 H A mem run .pre (to s v d))
+  asked : (s : Task) (v : Val) (d : Assignment) → Is K.the-row s (v ∷ []) → Is T.the-row d (valsA d)
+      → ent 𝓤 (sep 𝓤 (A .lft κ₂ q₂) (sem 𝓤 H A OwnB)) (Note 𝓤 H A mem run .pre (to s v d))
   asked s v d is id =
-      qed W (‵ (flft κ₂ q₂) ∷ ‵ OwnB ∷ []) ∵ nothing ! $ move ! (1 ∷ 0 ∷ []) $ join ! $ nothing ! $ owned ! T.the-row (Is T.the-row) (LL.makes T.the-type T′.the-plain 𝓤 H A) d _ id $ fjoin ! $
-      owned ! K.the-row (Is K.the-row) (EL.makes K.the-type K′.the-plain 𝓤 H A) s _ is $ fjoin ! $ owned ! P.the-row (Is P.the-row) (LL.makes P.the-type P′.the-plain 𝓤 H A) ps _ isp $ fjoin ! $
+      qed W (‵ (flft κ₂ q₂) ∷ ‵ OwnB ∷ []) ∵ nothing ! $ move ! (1 ∷ 0 ∷ []) $ join ! $ nothing ! $
+      owned ! T.the-row (Is T.the-row) (LL.makes T.the-type T′.the-plain 𝓤 H A) d _ id $ fjoin ! $
+      owned ! K.the-row (Is K.the-row) (EL.makes K.the-type K′.the-plain 𝓤 H A) s _ is $ fjoin ! $
+      owned ! P.the-row (Is P.the-row) (LL.makes P.the-type P′.the-plain 𝓤 H A) ps _ isp $ fjoin ! $
       move ! (2 ∷ 0 ∷ []) $ fjoin ! $ move ! (1 ∷ 0 ∷ []) $ join ! $ frame ! $ done !
 
-  -- of the callee's `ensured`, the clause alone
-  said : (s : Task) (d : Assignment) (r : Task) → ent 𝓤 (ensured 𝓤 H A note.ended (note.clauses 𝓤 H A mem run) (κ₂, tt) (buf, (ps, (s, (d, tt)))) tt r) (fact 𝓤 (r ≡ note-of s d))
+  -- what the callee ensures, and of that the clause alone
+  abbrev Says : Task → Assignment → Task → SProp 𝓤
+  Says s d r = ensured 𝓤 H A note.ended (note.clauses 𝓤 H A mem run) (κ₂, tt) (buf, (ps, (s, (d, tt)))) tt r
+
+  said : (s : Task) (d : Assignment) (r : Task) → ent 𝓤 (Says s d r) (fact 𝓤 (r ≡ note-of s d))
   said s d r = exE 𝓤 _ (λ ws. snd∗ 𝓤 (sem 𝓤 H A (lasts note.ended (κ₂, tt) (buf, (ps, (s, (d, tt)))) ws)) (fact 𝓤 (r ≡ note-of s d)))
 
   abbrev x : RefT (List Assignment) × (RefT (List ℕ) × (Psbt × (Task × Unit {0})))
@@ -144,15 +156,22 @@ module _ {M : Type 1} (𝓤 : URA M) (H : Heap 𝓤) (A : Atoms 𝓤) (W : Given
   abbrev at : Vals f.signature (κ, (κ₂, tt))
   at = (sliceVal (b, o) n ∷ [], (mb ∷ [], (vp ∷ [], (v₀ ∷ [], tt))))
 
+  -- the contract that the walk ends in, and what it binds here
+  abbrev Ends : Contract 𝓤
+  Ends = walkOf 𝓤 H A f.ended stayed (f.clauses 𝓤 H A mem run)
+
+  abbrev bound : Ends .Ghost
+  bound = (((κ, (κ₂, tt)), (q, (q₂, tt)), tt, x, at), tt)
+
   abbrev Post : Val → SProp 𝓤
-  Post = walkOf 𝓤 H A f.ended stayed (f.clauses 𝓤 H A mem run) .post (((κ, (κ₂, tt)), (q, (q₂, tt)), tt, x, at), tt)
+  Post = Ends .post bound
 
   exits : (r : Task) (v : Val) → Is K.the-row r (v ∷ []) → r ≡ tally-of s₀ ys → ent 𝓤 (⋆ 𝓤 H A (‵ (flft κ q) ∷ ‵ (flft κ₂ q₂) ∷ [])) (Post v)
   exits r v is e =
       qed W (‵ (flft κ q) ∷ ‵ (flft κ₂ q₂) ∷ []) ∵
-      suffices ! _ (ends-at 𝓤 H A f.ended stayed (f.clauses 𝓤 H A mem run) W (((κ, (κ₂, tt)), (q, (q₂, tt)), tt, x, at), tt) v r (tt, (tt, (tt, (tt, tt)))) (tt, (tt, (tt, (tt, tt))))) $ says ! e $
-      nothing ! $ move ! (2 ∷ 0 ∷ []) $ join ! $ move ! (1 ∷ 0 ∷ []) $ join ! $ frame ! $ nothing ! $ nothing ! $ fjoin ! $ nothing ! $ fjoin ! $ nothing ! $ fjoin ! $ nothing ! $ fjoin ! $ frame ! $
-      owned ! K.the-row (Is K.the-row) (EL.makes K.the-type K′.the-plain 𝓤 H A) r _ is $ done !
+      suffices ! _ (ends-at 𝓤 H A f.ended stayed (f.clauses 𝓤 H A mem run) W bound v r (tt, (tt, (tt, (tt, tt)))) (tt, (tt, (tt, (tt, tt))))) $ says ! e $
+      nothing ! $ move ! (2 ∷ 0 ∷ []) $ join ! $ move ! (1 ∷ 0 ∷ []) $ join ! $ frame ! $ nothing ! $ nothing ! $ fjoin ! $ nothing ! $ fjoin ! $ nothing ! $
+      fjoin ! $ nothing ! $ fjoin ! $ frame ! $ owned ! K.the-row (Is K.the-row) (EL.makes K.the-type K′.the-plain 𝓤 H A) r _ is $ done !
 
   -- ---- the loop
   -- where it is: at number k, with the answer s at the machine value v
@@ -172,7 +191,8 @@ module _ {M : Type 1} (𝓤 : URA M) (H : Heap 𝓤) (A : Atoms 𝓤) (W : Given
   abbrev start : Upto
   start = record { k = 0; s = s₀; v = v₀; is = is₀; same = refl }
 
-  module _ (𝓣 : Tables 𝓤 H) (known : Triple 𝓤 (𝓣 .C #struct-setter·note) (Note 𝓤 H A mem run)) (gn : Room T.the-row n) (gb : Room u8 (length (buf .now))) (l₀ l₁ l₂ l₃ l₄ l₅ l₆ l₇ l₈ l₉ l₁₀ : ℕ) where
+  module _ (𝓣 : Tables 𝓤 H) (known : Triple 𝓤 (𝓣 .C #struct-setter·note) (Note 𝓤 H A mem run)) (gn : Room T.the-row n) (gb : Room u8 (length (buf .now)))
+      (l₀ l₁ l₂ l₃ l₄ l₅ l₆ l₇ l₈ l₉ l₁₀ : ℕ) where
     abbrev C : Calls 𝓤 H
     C = 𝓣 .C
 
@@ -180,14 +200,19 @@ module _ {M : Type 1} (𝓤 : URA M) (H : Heap 𝓤) (A : Atoms 𝓤) (W : Given
     Λ = 𝓣 .Λ
 
     abbrev En : Env 𝓤 H
-    En = (K′.mir, l₀) ∷ (listTy, l₁) ∷ (bufTy, l₂) ∷ (P′.mir, l₃) ∷ (K′.mir, l₄) ∷ (K′.mir, l₅) ∷ (word, l₆) ∷ (word, l₇) ∷ (tyBool, l₈) ∷ (tyPtr, l₉) ∷ (T′.mir, l₁₀) ∷ []
+    En =
+        (K′.mir, l₀) ∷ (listTy, l₁) ∷ (bufTy, l₂) ∷ (P′.mir, l₃) ∷ (K′.mir, l₄) ∷ (K′.mir, l₅) ∷ (word, l₆) ∷ (word, l₇) ∷ (tyBool, l₈) ∷ (tyPtr, l₉) ∷
+        (T′.mir, l₁₀) ∷ []
 
     -- the list's token and its fractured borrow, the buffer's token and its reference, and the locals, the last first
     abbrev At : Upto → List (Item 𝓤)
     At z = ‵ (flft κ q) ∷ ‵ (fshr-bor κ (λ p. arr-parts (shares T.the-row) n .part p ys b o)) ∷ ‵ (flft κ₂ q₂) ∷ ‵ OwnB
-        ∷ ‵ (froom T′.mir l₁₀ 0) ∷ ‵ (fdies T′.mir l₁₀) ∷ ‵ (froom tyPtr l₉ 0) ∷ ‵ (fdies tyPtr l₉) ∷ ‵ (froom tyBool l₈ 0) ∷ ‵ (fdies tyBool l₈) ∷ ‵ (froom word l₇ 0) ∷ ‵ (fdies word l₇)
-        ∷ ‵ (fat fullShare word l₆ 0 (vint w64 (z .k))) ∷ ‵ (fdies word l₆) ∷ ‵ (fat fullShare K′.mir l₅ 0 (z .v)) ∷ ‵ (fdies K′.mir l₅) ∷ ‵ (fat fullShare K′.mir l₄ 0 v₀) ∷ ‵ (fdies K′.mir l₄)
-        ∷ ‵ (fat fullShare P′.mir l₃ 0 vp) ∷ ‵ (fdies P′.mir l₃) ∷ ‵ (fat fullShare bufTy l₂ 0 mb) ∷ ‵ (fdies bufTy l₂) ∷ ‵ (fat fullShare listTy l₁ 0 (sliceVal (b, o) n)) ∷ ‵ (fdies listTy l₁) ∷ ‵ (froom K′.mir l₀ 0) ∷ ‵ (fdies K′.mir l₀) ∷ []
+        ∷ ‵ (froom T′.mir l₁₀ 0) ∷ ‵ (fdies T′.mir l₁₀) ∷ ‵ (froom tyPtr l₉ 0) ∷ ‵ (fdies tyPtr l₉) ∷ ‵ (froom tyBool l₈ 0) ∷ ‵ (fdies tyBool l₈)
+        ∷ ‵ (froom word l₇ 0) ∷ ‵ (fdies word l₇)
+        ∷ ‵ (fat fullShare word l₆ 0 (vint w64 (z .k))) ∷ ‵ (fdies word l₆) ∷ ‵ (fat fullShare K′.mir l₅ 0 (z .v)) ∷ ‵ (fdies K′.mir l₅)
+        ∷ ‵ (fat fullShare K′.mir l₄ 0 v₀) ∷ ‵ (fdies K′.mir l₄)
+        ∷ ‵ (fat fullShare P′.mir l₃ 0 vp) ∷ ‵ (fdies P′.mir l₃) ∷ ‵ (fat fullShare bufTy l₂ 0 mb) ∷ ‵ (fdies bufTy l₂)
+        ∷ ‵ (fat fullShare listTy l₁ 0 (sliceVal (b, o) n)) ∷ ‵ (fdies listTy l₁) ∷ ‵ (froom K′.mir l₀ 0) ∷ ‵ (fdies K′.mir l₀) ∷ []
 
     -- a turn's postcondition: it ends nearer to the end, or the loop is left and the rest of the body runs
     abbrev Turned : Upto → Out → SProp 𝓤
@@ -197,29 +222,32 @@ module _ {M : Type 1} (𝓤 : URA M) (H : Heap 𝓤) (A : Atoms 𝓤) (W : Given
     more : (z : Upto) → ltb (z .k) n ≡ true → Sq W (At z) (runs C Λ En mir.turn-1 (anyQ (Turned z)))
     unfolding afterTurn
     more z test =
-        assigns ! (of-opd ! (load ! (from ! (fld ! refl (stop !))) (look-in ! 22 (sub ! 1 refl (whole !))))) (from ! (stop !)) (init ! 10 refl (tt, record { fits = gn .0 })) $
-        assigns ! (bin ! (load ! (from ! (stop !)) (look ! 12 refl)) (load ! (from ! (stop !)) (look ! 10 refl)) tt) (from ! (stop !)) (init ! 8 refl (tt, tt)) $
-        rewrite ! 8 (λ (t : Bool). ‵ (fat fullShare tyBool l₈ 0 (vbool t))) test refl $ stays ! (load ! (from ! (stop !)) (look ! 8 refl)) $
-        assigns ! (bin ! (load ! (from ! (stop !)) (look ! 12 refl)) (lit ! tt) (record { fits = gm })) (from ! (stop !)) (store ! 10 refl (tt, record { fits = gm })) $
-        assigns ! (bin ! (load ! (from ! (fld ! refl (stop !))) (look-in ! 22 (sub ! 0 refl (whole !)))) (load ! (from ! (stop !)) (look ! 10 refl)) tt) (from ! (stop !)) (init ! 6 refl (tt, tt)) $
-        rewrite ! 6 (λ (p : ℕ). ‵ (fat fullShare tyPtr l₉ 0 (vptr b p))) (sym (place-is 24 o (z .k))) refl $ move ! (1 ∷ 0 ∷ []) $
-        looks-slice ! tt T.the-row (Is T.the-row) (shows 𝓤 H A T.the-row) valsA (LL.tells T.the-type T′.the-laws) (LL.copy T.the-type T′.the-copy 𝓤 H A W) ys b o (λ q′.
+        assigns ! (of-opd ! (load ! (from ! (fld ! refl (stop !))) (look-in ! 22 (sub ! 1 refl (whole !))))) (here !)
+        (init ! 10 refl (tt, record { fits = gn .0 })) $ assigns ! (bin ! (local ! 12 refl) (local ! 10 refl) tt) (here !) (init ! 8 refl (tt, tt)) $
+        rewrite ! 8 (λ (t : Bool). ‵ (fat fullShare tyBool l₈ 0 (vbool t))) test refl $ stays ! (local ! 8 refl) $
+        assigns ! (bin ! (local ! 12 refl) (lit ! tt) (record { fits = gm })) (here !) (store ! 10 refl (tt, record { fits = gm })) $
+        assigns ! (bin ! (load ! (from ! (fld ! refl (stop !))) (look-in ! 22 (sub ! 0 refl (whole !)))) (local ! 10 refl) tt) (here !)
+        (init ! 6 refl (tt, tt)) $ rewrite ! 6 (λ (p : ℕ). ‵ (fat fullShare tyPtr l₉ 0 (vptr b p))) (sym (place-is 24 o (z .k))) refl $ move ! (1 ∷ 0 ∷ []) $
+        looks-slice ! tt T.the-row (Is T.the-row) (shows 𝓤 H A T.the-row) valsA (LL.tells T.the-type T′.the-laws)
+        (LL.copy T.the-type T′.the-copy 𝓤 H A W) ys b o (λ q′.
         elem-out ! T.the-row (Is T.the-row) (shows 𝓤 H A T.the-row) valsA (LL.tells T.the-type T′.the-laws) q′ ys (z .k) noRecord b o less (λ g.
         -- [list[k]; what it owns; the others; what shuts; the fractured borrow; the buffer's token; the buffer; _10; …; _9; …]
-        assigns ! (of-opd ! (load ! (from ! (hop ! (look ! 9 refl) (stop !))) (look-raw ! 0 refl))) (from ! (stop !)) (init ! 7 refl (LL.lawful T.the-type T′.the-laws 𝓤 H A W .typed elem _ g .0)) $
+        assigns ! (of-opd ! (load ! (from ! (hop ! (look ! 9 refl) (stop !))) (look-raw ! 0 refl))) (here !)
+        (init ! 7 refl (LL.lawful T.the-type T′.the-laws 𝓤 H A W .typed elem _ g .0)) $
         elem-back ! T.the-row q′ ys (z .k) noRecord (valsA elem) b o less $ shuts-slice ! tt T.the-row q′ ys b o $
         -- [the list's token; the fractured borrow; the buffer's token; the buffer; _10; …]: the buffer's reference is had twice
         move ! (3 ∷ []) $ use1 W (‵ OwnB ⊛ ‵ OwnB) (shr-slice-copy 𝓤 H A W (named 1) κ₂ u8 .twice buf (mb ∷ [])) $ split ! $
         move ! (4 ∷ 0 ∷ []) $ use2 W (raw (Note 𝓤 H A mem run .pre (to (z .s) (z .v) elem))) (asked (z .s) (z .v) elem (z .is) g) $
         -- [what `note` asks; the buffer; the list's token; the fractured borrow; _10; …]
-        calls-at ! (fmOf 𝓤 H (W .laws) 𝓣) (Note 𝓤 H A mem run) known (to (z .s) (z .v) elem) (and-then ! (load ! (from ! (stop !)) (look ! 20 refl)) (and-then ! (load ! (from ! (stop !)) (look ! 18 refl)) (and-then ! (load ! (from ! (stop !)) (look ! 14 refl)) (and-then ! (load ! (from ! (stop !)) (look ! 4 refl)) (no-more !))))) (λ u.
-        use1 W (later (some (λ (r : Task). ((‵ (flft κ₂ q₂) ⊛ ‵ ftrue) ⊛ ‵ (K.the-row .own r (u ∷ []))) ⊛ raw (ensured 𝓤 H A note.ended (note.clauses 𝓤 H A mem run) (κ₂, tt) (buf, (ps, (z .s, (elem, tt)))) tt r)))) (id⊢ 𝓤 _) $ await ! tt $ pick ! (λ r.
-        split ! $ move ! (1 ∷ []) $ use1 W (raw (fact 𝓤 (r ≡ note-of (z .s) elem))) (said (z .s) elem r) $ heard ! (r ≡ note-of (z .s) elem) (λ e. split ! $ move ! (1 ∷ []) $
-        peeks ! K.the-row (Is K.the-row) (shows 𝓤 H A K.the-row) r (u ∷ []) (λ is. drop ! $ split ! $
+        calls-at ! (fmOf 𝓤 H (W .laws) 𝓣) (Note 𝓤 H A mem run) known (to (z .s) (z .v) elem)
+        (and-then ! (local ! 20 refl) (and-then ! (local ! 18 refl) (and-then ! (local ! 14 refl) (and-then ! (local ! 4 refl) (no-more !))))) (λ u.
+        use1 W (later (some (λ (r : Task). ((‵ (flft κ₂ q₂) ⊛ ‵ ftrue) ⊛ ‵ (K.the-row .own r (u ∷ []))) ⊛ raw (Says (z .s) elem r)))) (id⊢ 𝓤 _) $ await ! tt $
+        pick ! (λ r.
+        split ! $ move ! (1 ∷ []) $ use1 W (raw (fact 𝓤 (r ≡ note-of (z .s) elem))) (said (z .s) elem r) $ heard ! (r ≡ note-of (z .s) elem) (λ e. split ! $
+        move ! (1 ∷ []) $ peeks ! K.the-row (Is K.the-row) (shows 𝓤 H A K.the-row) r (u ∷ []) (λ is. drop ! $ split ! $
         -- [the buffer's token; true; the buffer; the list's token; the fractured borrow; _10; …]
-        keep ! (3 ∷ 4 ∷ 0 ∷ 2 ∷ 5 ∷ 6 ∷ 7 ∷ 8 ∷ 9 ∷ 10 ∷ 11 ∷ 12 ∷ 13 ∷ 14 ∷ 15 ∷ 16 ∷ 17 ∷ 18 ∷ 19 ∷ 20 ∷ 21 ∷ 22 ∷ 23 ∷ 24 ∷ 25 ∷ 26 ∷ []) $
-        land ! (from ! (stop !)) (store ! 14 refl (EL.lawful K.the-type K′.the-laws 𝓤 H A W tt .typed r _ is .0)) $
-        assigns-last ! (bin ! (load ! (from ! (stop !)) (look ! 12 refl)) (lit ! tt) (record { fits = next-fits })) (from ! (stop !)) (store ! 12 refl (tt, record { fits = next-fits })) $
+        keep ! (3 ∷ 4 ∷ 0 ∷ 2 ∷ count 5 22) $ land ! (here !) (store ! 14 refl (EL.lawful K.the-type K′.the-laws 𝓤 H A W tt .typed r _ is .0)) $
+        assigns-last ! (bin ! (local ! 12 refl) (lit ! tt) (record { fits = next-fits })) (here !) (store ! 12 refl (tt, record { fits = next-fits })) $
         forget ! 4 refl $ forget ! 6 refl $ forget ! 8 refl $ forget ! 10 refl $ again ! Nearer At z (next r u is e) (next-less (z .k) n less)))))))
       where
         less : z .k < n
@@ -247,14 +275,16 @@ module _ {M : Type 1} (𝓤 : URA M) (H : Heap 𝓤) (A : Atoms 𝓤) (W : Given
     ends : (z : Upto) → ltb (z .k) n ≡ false → Sq W (At z) (runs C Λ En mir.turn-1 (anyQ (Turned z)))
     unfolding afterTurn
     ends z test =
-        assigns ! (of-opd ! (load ! (from ! (fld ! refl (stop !))) (look-in ! 22 (sub ! 1 refl (whole !))))) (from ! (stop !)) (init ! 10 refl (tt, record { fits = gn .0 })) $
-        assigns ! (bin ! (load ! (from ! (stop !)) (look ! 12 refl)) (load ! (from ! (stop !)) (look ! 10 refl)) tt) (from ! (stop !)) (init ! 8 refl (tt, tt)) $
-        rewrite ! 8 (λ (t : Bool). ‵ (fat fullShare tyBool l₈ 0 (vbool t))) test refl $ leaves-loop ! (load ! (from ! (stop !)) (look ! 8 refl)) $ exec ! C Λ En mir.t-4 (atRet En Post) $
-        assigns ! (of-opd ! (load ! (from ! (stop !)) (look ! 14 refl))) (from ! (stop !)) (init ! 24 refl (EL.lawful K.the-type K′.the-laws 𝓤 H A W tt .typed (z .s) _ (z .is) .0)) $
-        returns ! (look ! 24 refl) $ forget ! 8 refl $ forget ! 10 refl $ forget ! 12 refl $ forget ! 14 refl $ forget ! 16 refl $ forget ! 18 refl $ forget ! 20 refl $ forget ! 22 refl $ forget ! 24 refl $
-        move ! (24 ∷ 25 ∷ []) $ free1 ! $ move ! (22 ∷ 23 ∷ []) $ free1 ! $ move ! (20 ∷ 21 ∷ []) $ free1 ! $ move ! (18 ∷ 19 ∷ []) $ free1 ! $ move ! (16 ∷ 17 ∷ []) $ free1 ! $ move ! (14 ∷ 15 ∷ []) $ free1 ! $
-        move ! (12 ∷ 13 ∷ []) $ free1 ! $ move ! (10 ∷ 11 ∷ []) $ free1 ! $ move ! (8 ∷ 9 ∷ []) $ free1 ! $ move ! (6 ∷ 7 ∷ []) $ free1 ! $ move ! (4 ∷ 5 ∷ []) $ free1 ! $ free0 ! $
-        keep ! (0 ∷ 2 ∷ []) $
+        assigns ! (of-opd ! (load ! (from ! (fld ! refl (stop !))) (look-in ! 22 (sub ! 1 refl (whole !))))) (here !)
+        (init ! 10 refl (tt, record { fits = gn .0 })) $ assigns ! (bin ! (local ! 12 refl) (local ! 10 refl) tt) (here !) (init ! 8 refl (tt, tt)) $
+        rewrite ! 8 (λ (t : Bool). ‵ (fat fullShare tyBool l₈ 0 (vbool t))) test refl $ leaves-loop ! (local ! 8 refl) $ exec ! C Λ En mir.t-4 (atRet En Post) $
+        assigns ! (of-opd ! (local ! 14 refl)) (here !) (init ! 24 refl (EL.lawful K.the-type K′.the-laws 𝓤 H A W tt .typed (z .s) _ (z .is) .0)) $
+        returns ! (look ! 24 refl) $ forget ! 8 refl $ forget ! 10 refl $ forget ! 12 refl $ forget ! 14 refl $ forget ! 16 refl $ forget ! 18 refl $
+        forget ! 20 refl $ forget ! 22 refl $ forget ! 24 refl $
+        move ! (24 ∷ 25 ∷ []) $ free1 ! $ move ! (22 ∷ 23 ∷ []) $ free1 ! $ move ! (20 ∷ 21 ∷ []) $ free1 ! $ move ! (18 ∷ 19 ∷ []) $ free1 ! $
+        move ! (16 ∷ 17 ∷ []) $ free1 ! $ move ! (14 ∷ 15 ∷ []) $ free1 ! $
+        move ! (12 ∷ 13 ∷ []) $ free1 ! $ move ! (10 ∷ 11 ∷ []) $ free1 ! $ move ! (8 ∷ 9 ∷ []) $ free1 ! $ move ! (6 ∷ 7 ∷ []) $ free1 ! $
+        move ! (4 ∷ 5 ∷ []) $ free1 ! $ free0 ! $ keep ! (0 ∷ 2 ∷ []) $
         by ! (exits (z .s) (z .v) (z .is) (tally-done (buf .now) (ps .outputs) (z .s) ys (z .k) (ltb-false (z .k) n test) ∙ z .same))
 
     turn-by : (z : Upto) (t : Bool) → ltb (z .k) n ≡ t → Sq W (At z) (runs C Λ En mir.turn-1 (anyQ (Turned z)))
@@ -268,31 +298,46 @@ module _ {M : Type 1} (𝓤 : URA M) (H : Heap 𝓤) (A : Atoms 𝓤) (W : Given
     looped : Sq W (At start) (runs C Λ En mir.t-3 (atRet En Post))
     looped = first ! $ blocks ! $ loops ! 𝓣 Nearer Nearer-wf At turns start
 
-  walk : (𝓣 : Tables 𝓤 H) → Triple 𝓤 (𝓣 .C #struct-setter·note) (Note 𝓤 H A mem run) → Room T.the-row n → Room u8 (length (buf .now)) → ent 𝓤 (onEntry 𝓤 H A f.signature (κ, (κ₂, tt)) (q, (q₂, tt)) x at) (WpFn 𝓤 H (𝓣 .C) (𝓣 .Λ) code.function (sliceVal (b, o) n ∷ mb ∷ vp ∷ v₀ ∷ []) Post)
+  walk : (𝓣 : Tables 𝓤 H) → Triple 𝓤 (𝓣 .C #struct-setter·note) (Note 𝓤 H A mem run) → Room T.the-row n → Room u8 (length (buf .now))
+      → ent 𝓤 (onEntry 𝓤 H A f.signature (κ, (κ₂, tt)) (q, (q₂, tt)) x at) (WpFn 𝓤 H (𝓣 .C) (𝓣 .Λ) code.function (sliceVal (b, o) n ∷ mb ∷ vp ∷ v₀ ∷ []) Post)
   walk 𝓣 known gn gb =
-      qed W ((‵ (flft κ q) ⊛ ‵ (flft κ₂ q₂) ⊛ ‵ ftrue) ∷ ‵ (owns (ShrSlice (named 0) κ T.the-row ∷ ShrSlice (named 1) κ₂ u8 ∷ P.the-row ∷ K.the-row ∷ []) x at) ∷ []) ∵ enter ! (𝓣 .C) (𝓣 .Λ) code.function (sliceVal (b, o) n ∷ mb ∷ vp ∷ v₀ ∷ []) _ $
-      alloc1 ! (λ l₀. alloc1 ! (λ l₁. alloc1 ! (λ l₂. alloc1 ! (λ l₃. alloc1 ! (λ l₄. alloc1 ! (λ l₅. alloc1 ! (λ l₆. alloc1 ! (λ l₇. alloc1 ! (λ l₈. alloc1 ! (λ l₉. alloc1 ! (λ l₁₀. alloc0 ! $ params1 ! $
-      pass1 ! (init ! 18 refl (tt, (tt, (record { fits = gn .0 }, tt)))) $ pass1 ! (init ! 16 refl (tt, (tt, (record { fits = gb .0 }, tt)))) $ pass1 ! (init ! 14 refl (LL.lawful P.the-type P′.the-laws 𝓤 H A W .typed ps _ isp .0)) $
+      qed W ((‵ (flft κ q) ⊛ ‵ (flft κ₂ q₂) ⊛ ‵ ftrue)
+      ∷ ‵ (owns (ShrSlice (named 0) κ T.the-row ∷ ShrSlice (named 1) κ₂ u8 ∷ P.the-row ∷ K.the-row ∷ []) x at) ∷ []) ∵
+      enter ! (𝓣 .C) (𝓣 .Λ) code.function (sliceVal (b, o) n ∷ mb ∷ vp ∷ v₀ ∷ []) _ $
+      alloc1 ! (λ l₀. alloc1 ! (λ l₁. alloc1 ! (λ l₂. alloc1 ! (λ l₃. alloc1 ! (λ l₄. alloc1 ! (λ l₅. alloc1 ! (λ l₆.
+      alloc1 ! (λ l₇. alloc1 ! (λ l₈. alloc1 ! (λ l₉. alloc1 ! (λ l₁₀. alloc0 ! $ params1 ! $
+      pass1 ! (init ! 18 refl (tt, (tt, (record { fits = gn .0 }, tt)))) $ pass1 ! (init ! 16 refl (tt, (tt, (record { fits = gb .0 }, tt)))) $
+      pass1 ! (init ! 14 refl (LL.lawful P.the-type P′.the-laws 𝓤 H A W .typed ps _ isp .0)) $
       pass1 ! (init ! 12 refl (EL.lawful K.the-type K′.the-laws 𝓤 H A W tt .typed s₀ _ is₀ .0)) $ pass0 ! $
-      assigns ! (of-opd ! (load ! (from ! (stop !)) (look ! 12 refl))) (from ! (stop !)) (init ! 10 refl (EL.lawful K.the-type K′.the-laws 𝓤 H A W tt .typed s₀ _ is₀ .0)) $
-      assigns ! (of-opd ! (lit ! tt)) (from ! (stop !)) (init ! 8 refl (tt, record { fits = lit< tt })) $
+      assigns ! (of-opd ! (local ! 12 refl)) (here !) (init ! 10 refl (EL.lawful K.the-type K′.the-laws 𝓤 H A W tt .typed s₀ _ is₀ .0)) $
+      assigns ! (of-opd ! (lit ! tt)) (here !) (init ! 8 refl (tt, record { fits = lit< tt })) $
       -- [_10; …; _0; …; the tokens; what the parameters own]
-      move ! (23 ∷ []) $ fsplit ! $ move ! (1 ∷ []) $ fsplit ! $ move ! (2 ∷ []) $ fsplit ! $ move ! (1 ∷ []) $ fsplit ! $ move ! (27 ∷ []) $ split ! $ move ! (1 ∷ []) $ split ! $
+      move ! (23 ∷ []) $ fsplit ! $ move ! (1 ∷ []) $ fsplit ! $ move ! (2 ∷ []) $ fsplit ! $ move ! (1 ∷ []) $ fsplit ! $ move ! (27 ∷ []) $ split ! $
+      move ! (1 ∷ []) $ split ! $
       -- [the buffer's token; true; the list's token; res; the fractured borrow; the list's fact; the buffer; what the others own; _10; …]
-      keep ! (2 ∷ 4 ∷ 0 ∷ 6 ∷ 8 ∷ 9 ∷ 10 ∷ 11 ∷ 12 ∷ 13 ∷ 14 ∷ 15 ∷ 16 ∷ 17 ∷ 18 ∷ 19 ∷ 20 ∷ 21 ∷ 22 ∷ 23 ∷ 24 ∷ 25 ∷ 26 ∷ 27 ∷ 28 ∷ 29 ∷ []) $
-      looped 𝓣 known gn gb l₀ l₁ l₂ l₃ l₄ l₅ l₆ l₇ l₈ l₉ l₁₀)))))))))))
+      keep ! (2 ∷ 4 ∷ 0 ∷ 6 ∷ count 8 22) $ looped 𝓣 known gn gb l₀ l₁ l₂ l₃ l₄ l₅ l₆ l₇ l₈ l₉ l₁₀)))))))))))
 
 module _ {M : Type 1} (𝓤 : URA M) (H : Heap 𝓤) (A : Atoms 𝓤) (W : Given 𝓤 H A) (mem : Memory → SProp 𝓤) (run : Routine → Fun 𝓤) (𝓣 : Tables 𝓤 H) where
-  tally-walks : Triple 𝓤 (𝓣 .C #struct-setter·note) (Note 𝓤 H A mem run) → Walks 𝓤 H A f.ended stayed (WpFn 𝓤 H (𝓣 .C) (𝓣 .Λ) code.function) (f.clauses 𝓤 H A mem run)
+  tally-walks : Triple 𝓤 (𝓣 .C #struct-setter·note) (Note 𝓤 H A mem run)
+      → Walks 𝓤 H A f.ended stayed (WpFn 𝓤 H (𝓣 .C) (𝓣 .Λ) code.function) (f.clauses 𝓤 H A mem run)
   tally-walks known = walked 𝓤 H A f.ended stayed (f.clauses 𝓤 H A mem run) (WpFn 𝓤 H (𝓣 .C) (𝓣 .Λ) code.function)
       (λ κs. (slice-vals, (slice-vals, (LL.vals P.the-type P′.the-laws, (EL.vals K.the-type K′.the-laws, tt)))))
-      (λ κs. (shr-slice-tells (named 0) (κs .0) T.the-row, (shr-slice-tells (named 1) (κs .1 .0) u8, (LL.tells P.the-type P′.the-laws, (EL.tells K.the-type K′.the-laws, tt)))))
+      (λ κs. (
+        shr-slice-tells (named 0) (κs .0) T.the-row,
+        (shr-slice-tells (named 1) (κs .1 .0) u8, (LL.tells P.the-type P′.the-laws, (EL.tells K.the-type K′.the-laws, tt))),
+      ))
       (λ κs qs bounds a g are. via 𝓤 _ (fst∗ 𝓤 _ (emp 𝓤))
-      (walk 𝓤 H A W mem run (κs .0) (κs .1 .0) (qs .0) (qs .1 .0) (a .0 .ptr .0) (a .0 .ptr .1) (a .0 .name) (a .0 .now) (a .1 .0) (a .1 .1 .0) _ (are .1 .1 .0) (a .1 .1 .1 .0) _ (are .1 .1 .1 .0) 𝓣 known (are .0 .0 .1) (are .1 .0 .0 .1)))
+      (walk 𝓤 H A W mem run (κs .0) (κs .1 .0) (qs .0) (qs .1 .0) (a .0 .ptr .0) (a .0 .ptr .1) (a .0 .name) (a .0 .now) (a .1 .0) (a .1 .1 .0) _ (are .1 .1 .0)
+      (a .1 .1 .1 .0) _ (are .1 .1 .1 .0) 𝓣 known (are .0 .0 .1) (are .1 .0 .0 .1)))
 
   tally-meets : Triple 𝓤 (𝓣 .C #struct-setter·note) (Note 𝓤 H A mem run) → Meets 𝓤 H A f.signature (WpFn 𝓤 H (𝓣 .C) (𝓣 .Λ) code.function) (f.spec 𝓤 H A mem run)
-  tally-meets known = walk-meets 𝓤 H A f.ended stayed W
-      (goes-dropped 𝓤 H A W 2 ListS yes (λ κs x f. refl), (goes-dropped 𝓤 H A W 2 BufS yes (λ κs x f. refl), (goes-dropped 𝓤 H A W 2 (plain (λ _. P.the-row)) yes (λ κs x f. refl), (goes-dropped 𝓤 H A W 2 (plain (λ _. K.the-row)) yes (λ κs x f. refl), tt))))
+  tally-meets known = walk-meets 𝓤 H A f.ended stayed W (
+    goes-dropped 𝓤 H A W 2 ListS yes (λ κs x f. refl),
+    (
+      goes-dropped 𝓤 H A W 2 BufS yes (λ κs x f. refl),
+      (goes-dropped 𝓤 H A W 2 (plain (λ _. P.the-row)) yes (λ κs x f. refl), (goes-dropped 𝓤 H A W 2 (plain (λ _. K.the-row)) yes (λ κs x f. refl), tt)),
+    ),
+  )
       (f.clauses 𝓤 H A mem run) (WpFn 𝓤 H (𝓣 .C) (𝓣 .Λ) code.function) (WpFn-mono 𝓤 H (W .laws) 𝓣 code.function) (tally-walks known)
 
 pub tally-spec : {M : Type 1} → stated.statement M

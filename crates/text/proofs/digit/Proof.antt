@@ -14,4 +14,5 @@ digit-spec =
     (λ c. search (needs, tests))
     (λ c. search (needs, tests))
     (λ c. search (needs, tests))
+    (λ c. search (needs, tests))
     (λ c. search (needs, tests)))

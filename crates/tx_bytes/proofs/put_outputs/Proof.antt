@@ -1,7 +1,7 @@
 -- `tx_bytes::put_outputs` meets its contract.
 use Prim.Native.Nat.{_-_}
 use borrow.Author.Needs.{needs}
-use Rattle.tx_size.proofs.Outputs.{output-maps}
+use Rattle.all_maps_fit.proofs.Gathers.{output-maps}
 use Rattle.tx_bytes.proofs.Outputs.{Putting, puttings}
 use Rattle.tx_bytes.proofs.put_outputs.Statement.{statement}
 use Rattle.tx_bytes.proofs.put_outputs.Tie as tie
@@ -19,8 +19,6 @@ put-outputs-spec =
     (tie.spec
     Inv-loop
     μ-loop
-    (λ c. search (needs, puttings, output-maps))
-    (λ c. search (needs, puttings, output-maps))
     (λ c. search (needs, puttings, output-maps))
     (λ c κs. search (needs, puttings, output-maps))
     (λ c κs. search (needs, puttings, output-maps))

@@ -1,7 +1,8 @@
 -- `tx_size::outputs_len` meets its contract.
 use Prim.Native.Nat.{_-_}
 use borrow.Author.Needs.{needs}
-use Rattle.tx_size.proofs.Outputs.{Measuring, measures, output-maps}
+use Rattle.all_maps_fit.proofs.Gathers.{output-maps}
+use Rattle.tx_size.proofs.Outputs.{Measuring, measures}
 use Rattle.tx_size.proofs.outputs_len.Statement.{statement}
 use Rattle.tx_size.proofs.outputs_len.Tie as tie
 
@@ -18,8 +19,6 @@ outputs-len-spec =
     (tie.spec
     Inv-loop
     μ-loop
-    (λ c. search (needs, measures, output-maps))
-    (λ c. search (needs, measures, output-maps))
     (λ c. search (needs, measures, output-maps))
     (λ c κs. search (needs, measures, output-maps))
     (λ c κs. search (needs, measures, output-maps))

@@ -1,7 +1,7 @@
 -- `unsigned_tx::scripts_fit` meets its contract.
 use Prim.Native.Nat.{_-_}
 use borrow.Author.Needs.{needs}
-use Rattle.tx_size.proofs.Outputs.{output-maps}
+use Rattle.all_maps_fit.proofs.Gathers.{output-maps}
 use Rattle.unsigned_tx.proofs.Judges.{Judging, judges}
 use Rattle.unsigned_tx.proofs.scripts_fit.Statement.{statement}
 use Rattle.unsigned_tx.proofs.scripts_fit.Tie as tie
@@ -19,8 +19,6 @@ scripts-fit-spec =
     (tie.spec
     Inv-loop
     μ-loop
-    (λ c. search (needs, judges, output-maps))
-    (λ c. search (needs, judges, output-maps))
     (λ c. search (needs, judges, output-maps))
     (λ c κs. search (needs, judges, output-maps))
     (λ c κs. search (needs, judges, output-maps))

@@ -1,4 +1,5 @@
--- `utc::month_of` meets its contract. The invariant: the month of the day that is left, from month `m` on, is the month of the whole. The measure is the number of months left.
+-- `utc::month_of` meets its contract. The invariant: the month of the day that is left, from month `m` on, is the month of the whole.
+-- The measure is the number of months left.
 use borrow.Author.Needs.{needs}
 use Prim.Native.Nat.{_-_}
 use Rattle.utc.proofs.Stands.{Months, months}

@@ -1,4 +1,5 @@
--- `why_text::put_inputs` meets its contract. The invariant: the lines of the inputs from `i` on, put from here, give all. The measure is the number of inputs left.
+-- `why_text::put_inputs` meets its contract. The invariant: the lines of the inputs from `i` on,
+-- put from here, give all. The measure is the number of inputs left.
 use borrow.Author.Needs.{needs}
 use Prim.Native.Nat.{_-_}
 use Rattle.why_text.proofs.Wholes.{Asking, asking}

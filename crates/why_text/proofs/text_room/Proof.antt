@@ -1,5 +1,5 @@
 -- `why_text::text_room` meets its contract.
-use Rattle.text.proofs.Rooms.{room}
+use Rattle.rooms.proofs.Zeros.{room}
 use Rattle.why_text.proofs.text_room.Statement.{statement}
 use Rattle.why_text.proofs.text_room.Tie as tie
 

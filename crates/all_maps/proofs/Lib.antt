@@ -1,4 +1,0 @@
-pub mod Runs
-pub mod Gathers
-pub mod Fields
-pub mod Inputs

@@ -1,0 +1,14 @@
+pub mod Items
+pub mod Files
+pub mod Orderly
+pub mod Rooms
+pub mod Parsed
+pub mod Shown
+pub mod Stopped
+pub mod Given
+pub mod Prefixes
+pub mod Listings
+pub mod Found
+pub mod Rises
+pub mod Unfit
+pub mod Promised

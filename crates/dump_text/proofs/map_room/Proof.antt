@@ -1,8 +1,0 @@
--- `dump_text::map_room` meets its contract.
-use Rattle.text.proofs.Rooms.{room}
-use Rattle.dump_text.proofs.Wholes.{room-is}
-use Rattle.dump_text.proofs.map_room.Statement.{statement}
-use Rattle.dump_text.proofs.map_room.Tie as tie
-
-pub map-room-spec : {M : Type 1} → statement M
-map-room-spec = tie.close (tie.spec (λ c. (room-is 512, room 512)))

@@ -1,8 +1,0 @@
--- `dump_text::tx_room` meets its contract.
-use Rattle.text.proofs.Rooms.{room}
-use Rattle.dump_text.proofs.Wholes.{room-is}
-use Rattle.dump_text.proofs.tx_room.Statement.{statement}
-use Rattle.dump_text.proofs.tx_room.Tie as tie
-
-pub tx-room-spec : {M : Type 1} → statement M
-tx-room-spec = tie.close (tie.spec (λ c. (room-is 65536, room 65536)))

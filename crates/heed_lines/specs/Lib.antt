@@ -1,0 +1,2 @@
+pub mod Heeds
+pub mod Examples

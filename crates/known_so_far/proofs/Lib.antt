@@ -1,0 +1,3 @@
+pub mod Notes
+pub mod Parts
+pub mod Ends

@@ -1,5 +1,0 @@
-pub mod Fine
-pub mod Given
-pub mod Rooms
-pub mod Shown
-pub mod Found

@@ -1,4 +1,0 @@
-pub mod Notes
-pub mod Parts
-pub mod Signs
-pub mod Ends
