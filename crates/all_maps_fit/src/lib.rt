@@ -1,4 +1,6 @@
 // All reported maps at once: whether each is fit, and the fields of one that is.
+#![tactic(auto)]
+
 ghost use Rattle.std.specs.Prelude.{◌≡◌, map, ◌+◌, ◌<◌, ◌≤◌};
 ghost use Rattle.format.specs.Content.{field};
 ghost use Rattle.format.specs.Entries.{shown};
@@ -17,14 +19,14 @@ use format::{
 };
 
 // Where the field of a type stands in a map: start and length of its value.
-#[derive(Drop)]
+#[derive(Clone, Copy)]
 pub enum FoundAt {
     Missing,
     At { start: usize, len: usize },
 }
 
 // The same of a field that must have some number of bytes.
-#[derive(Drop)]
+#[derive(Clone, Copy)]
 pub enum SizedAt {
     Missing,
     Misfit,
@@ -103,7 +105,7 @@ pub fn sized_field(file: &[u8], pairs: &[u32], m: MapEntry, key_type: u8, width:
 }
 
 // Where the fields of an input stand that the lock and the transaction take.
-#[derive(Drop)]
+#[derive(Clone, Copy)]
 pub struct InputAt {
     pub txid: SizedAt,
     pub index: SizedAt,

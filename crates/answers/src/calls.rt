@@ -13,7 +13,7 @@ const CALLS: u8 = 55;
 const MOST: usize = 8;
 
 // A call's number, and where the next one begins: 0 where there is none. The arguments are read beside it.
-#[derive(Drop)]
+#[derive(Clone, Copy)]
 pub struct Call {
     pub number: u8,
     pub next: usize,

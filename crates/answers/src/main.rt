@@ -1,5 +1,7 @@
 // Reads records from standard input until it ends. A record lends memory or asks calls, and each call is answered by a line
 // on standard output.
+#![tactic(auto)]
+
 use crate::calls::{ask_map, parse, part_asked, read_call, set_scripts, write_tx};
 use crate::lines::{put_answer, put_bytes, put_part, put_table};
 use crate::memory::{
@@ -14,7 +16,7 @@ mod memory;
 
 // How far the run is: where the lines end, where the next call of the body at hand begins and where they all end, and how the
 // run ended, 0 where it goes on. How many cells each kind of memory has, and what earlier calls left for later ones.
-#[derive(Drop)]
+#[derive(Clone, Copy)]
 struct Stand {
     at: usize,
     next: usize,

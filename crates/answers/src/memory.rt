@@ -40,7 +40,7 @@ pub const OVER: u8 = 10;
 pub const CUT: u8 = 11;
 
 // Where the body of a record is read to, how many bytes a cell of its memory has, and how many cells there are at most.
-#[derive(Drop)]
+#[derive(Clone, Copy)]
 struct Memory {
     from: usize,
     each: usize,
@@ -48,7 +48,7 @@ struct Memory {
 }
 
 // A record: its kind, how many cells it lends, and how many bytes these are.
-#[derive(Drop)]
+#[derive(Clone, Copy)]
 pub struct Record {
     pub kind: u8,
     pub room: usize,

@@ -1,1 +1,2 @@
 // The claims about added and struck pairs; no code.
+#![tactic(auto)]

@@ -1,1 +1,2 @@
 // Laws of the lock time: it honours what the inputs ask. Nothing here runs.
+#![tactic(auto)]

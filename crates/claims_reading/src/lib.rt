@@ -1,1 +1,2 @@
 // The laws of the format; no code.
+#![tactic(auto)]

@@ -1,1 +1,2 @@
 // The claims about the text of `why`; no code.
+#![tactic(auto)]

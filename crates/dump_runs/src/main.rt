@@ -1,4 +1,6 @@
 // Writes the dumps of the stored files that its arguments name, one after the other, to standard output.
+#![tactic(auto)]
+
 use dump_text::dump_input;
 
 // The dump of the file that argument `i` names.

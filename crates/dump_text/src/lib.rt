@@ -1,4 +1,6 @@
 // The text that the dump prints of a file, put into a lent buffer as far as it has room.
+#![tactic(auto)]
+
 ghost use Rattle.std.specs.Prelude.{◌≡◌, map, ◌+◌, ◌≤◌, length, take};
 ghost use Rattle.format.specs.Entries.{shown};
 ghost use Rattle.format.specs.Tables.{view, maps_reported};

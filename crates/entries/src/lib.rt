@@ -1,4 +1,6 @@
 // The entries of both lent tables, read and written. Nothing else knows which words an entry takes.
+#![tactic(auto)]
+
 ghost use Rattle.std.specs.Prelude.{◌≡◌, ◌+◌, ◌<◌, ◌≤◌, length};
 ghost use Rattle.format.specs.Entries.{pair_words, map_words, has_room_def, put_pair, put_map};
 ghost use Rattle.entries.specs.Words.{pair_count, map_count, pair_from, map_from, pair_at, map_at, PairFits, MapFits};

@@ -1,4 +1,6 @@
 // Answers as words in a lent slice, and what a parse reported from its words, for callers from other languages.
+#![tactic(auto)]
+
 ghost use Rattle.format.specs.Told.{flag, maybe_value, told_looked, told_numbered, told_listing, told_nth};
 ghost use Rattle.format.specs.Told.{told_utxo, told_lock, told_script, told_set, told_tx, told_parsed};
 ghost use Rattle.std.specs.Prelude.{◌≡◌, ◌+◌, ◌≤◌, length, get_or};

@@ -1,4 +1,6 @@
 // The library for programs in C and Rust: every public call in numbers and slices (`include/fastpsbt.h`).
+#![tactic(auto)]
+
 ghost use Rattle.std.specs.Prelude.{◌≡◌};
 ghost use Rattle.format.specs.Fields.{amount, final_scriptsig, final_scriptwitness, get_witness_utxo, global_proof, global_share, input_participants};
 ghost use Rattle.format.specs.Fields.{input_proof, input_share, non_witness_utxo, out_redeem_script, out_witness_script, output_index, output_participants};

@@ -3,6 +3,8 @@
 //
 // A file is parsed once, into two lent tables. All later calls take the file, both tables as they were left and what the parse
 // reported. Refusals carry their numbers (`PsbtError::number`).
+#![tactic(auto)]
+
 ghost use Rattle.std.specs.Prelude.{◌≡◌};
 ghost use Rattle.format.specs.Lookups.{part};
 ghost use Rattle.format.specs.Parse.{parsed};

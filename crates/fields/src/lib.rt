@@ -1,4 +1,6 @@
 // The field rule of a pair, judged by its lengths and the front of its value.
+#![tactic(auto)]
+
 ghost use Rattle.std.specs.Prelude.{◌≡◌};
 ghost use Rattle.format.specs.Compact.{size, count_by_def};
 ghost use Rattle.format.specs.Rules.{value_fits, is_row, row_rule, sizes_in, sizes, count_rule};

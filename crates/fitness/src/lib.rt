@@ -1,4 +1,6 @@
 // Whether a map of lent tables is fit to be asked, whatever they hold, and the parts of the file that its entries name.
+#![tactic(auto)]
+
 ghost use Rattle.std.specs.Prelude.{◌≡◌, [], ◌+◌, ◌≤◌, leb, ltb, length};
 ghost use Rattle.format.specs.Entries.{key_in_def, value_in_def};
 ghost use Rattle.format.specs.Tables.{in_file, fit, maps_reported};
@@ -9,7 +11,7 @@ ghost use Rattle.fitness.specs.Parts.{bytes_at, fit_one};
 use format::{MapEntry, PairEntry, Psbt, PsbtError};
 
 // What the asked map is: its entry, whose pairs are all fit, or the refusal.
-#[derive(Drop)]
+#[derive(Clone, Copy)]
 pub enum Fit {
     Refused(PsbtError),
     Is(MapEntry),

@@ -1,4 +1,6 @@
 // What every other crate speaks of: the Rust's constants, the refusals, and the plain answers.
+#![tactic(auto)]
+
 ghost use Rattle.std.specs.Prelude.{◌≡◌};
 ghost use Rattle.format.specs.Refusals.{number_of};
 ghost use Rattle.format.specs.Locks.{or_zero};
@@ -137,7 +139,7 @@ pub const PSBT_OUT_DNSSEC_PROOF: u8 = 0x35;
 pub const PSBT_OUT_PROPRIETARY: u8 = 0xfc;
 
 // Why a call is refused: the Rust's names in the Rust's order, then those that lent memory adds.
-#[derive(Drop)]
+#[derive(Clone, Copy)]
 pub enum PsbtError {
     InvalidMagic,
     UnexpectedEof,
@@ -202,14 +204,14 @@ impl PsbtError {
 }
 
 // A compact size at the front of some bytes: its value and how many bytes spell it, or the refusal.
-#[derive(Drop)]
+#[derive(Clone, Copy)]
 pub enum Size {
     Bad(PsbtError),
     Read { value: u64, used: usize },
 }
 
 // How one key stands to another.
-#[derive(Drop)]
+#[derive(Clone, Copy)]
 pub enum Order {
     Below,
     Same,
@@ -217,7 +219,7 @@ pub enum Order {
 }
 
 // What a rule says: passed, or the refusal.
-#[derive(Drop)]
+#[derive(Clone, Copy)]
 pub enum Ruled {
     Passed,
     Refused(PsbtError),
@@ -225,7 +227,7 @@ pub enum Ruled {
 
 // A row of the table of sized types: kind of map, type, length of the key data, length of the value.
 // A value of 0 marks a key origin: at least 4 bytes, a multiple of 4. A bare row speaks only of keys without data.
-#[derive(Drop)]
+#[derive(Clone, Copy)]
 pub struct SizedType {
     pub kind: u8,
     pub tag: u8,
@@ -235,7 +237,7 @@ pub struct SizedType {
 }
 
 // A number that may be absent; absent is not 0.
-#[derive(Drop)]
+#[derive(Clone, Copy)]
 pub enum Maybe {
     Absent,
     Present(u32),
@@ -254,7 +256,7 @@ impl Maybe {
 }
 
 // What parse reports of the global map.
-#[derive(Drop)]
+#[derive(Clone, Copy)]
 pub struct Psbt {
     pub tx_version: i32,
     pub fallback_locktime: Maybe,
@@ -264,7 +266,7 @@ pub struct Psbt {
 }
 
 // What parse answers, with the entries used of both tables.
-#[derive(Drop)]
+#[derive(Clone, Copy)]
 pub enum Parsed {
     Accepted {
         psbt: Psbt,
@@ -279,7 +281,7 @@ pub enum Parsed {
 }
 
 // A pair's entry: where its key and its value stand in the file.
-#[derive(Drop)]
+#[derive(Clone, Copy)]
 pub struct PairEntry {
     pub key: usize,
     pub klen: usize,
@@ -288,14 +290,14 @@ pub struct PairEntry {
 }
 
 // A map's entry: its first pair's number and how many pairs it has.
-#[derive(Drop)]
+#[derive(Clone, Copy)]
 pub struct MapEntry {
     pub first: usize,
     pub count: usize,
 }
 
 // What a lookup answers: where the value stands in the file, that there is none, or the refusal.
-#[derive(Drop)]
+#[derive(Clone, Copy)]
 pub enum Looked {
     Refused(PsbtError),
     Absent,
@@ -303,7 +305,7 @@ pub enum Looked {
 }
 
 // A number looked up.
-#[derive(Drop)]
+#[derive(Clone, Copy)]
 pub enum Numbered {
     Refused(PsbtError),
     Absent,
@@ -311,21 +313,21 @@ pub enum Numbered {
 }
 
 // A listing by type: the first pair's number in its map, and how many there are.
-#[derive(Drop)]
+#[derive(Clone, Copy)]
 pub enum Listing {
     Refused(PsbtError),
     Pairs { first: usize, count: usize },
 }
 
 // A pair asked by its number in its map.
-#[derive(Drop)]
+#[derive(Clone, Copy)]
 pub enum Nth {
     Refused(PsbtError),
     Is(PairEntry),
 }
 
 // A witness UTXO: the amount, and where its script stands in the file.
-#[derive(Drop)]
+#[derive(Clone, Copy)]
 pub enum Utxo {
     Refused(PsbtError),
     Absent,
@@ -338,7 +340,7 @@ pub enum Utxo {
 
 // What decided the lock: the greatest height or time and the input that asks for it, the fallback (0 if
 // absent), or the rule that refused and the inputs at fault.
-#[derive(Drop)]
+#[derive(Clone, Copy)]
 pub enum Lock {
     Refused(PsbtError),
     Height { number: u32, input: u64 },
@@ -351,14 +353,14 @@ pub enum Lock {
 }
 
 // How far a signing job is: whether scripts were set, and whether a transaction was written.
-#[derive(Drop)]
+#[derive(Clone, Copy)]
 pub struct State {
     pub set: bool,
     pub written: bool,
 }
 
 // A script for an output: the output's number, and where the script stands in its buffer.
-#[derive(Drop)]
+#[derive(Clone, Copy)]
 pub struct Assignment {
     pub output: u64,
     pub start: u64,
@@ -366,21 +368,21 @@ pub struct Assignment {
 }
 
 // What the setter answers: the new state, or the refusal.
-#[derive(Drop)]
+#[derive(Clone, Copy)]
 pub enum ScriptsSet {
     Refused(PsbtError),
     Done(State),
 }
 
 // What the transaction answers: how many bytes it has and the new state, or the refusal.
-#[derive(Drop)]
+#[derive(Clone, Copy)]
 pub enum UnsignedTx {
     Refused(PsbtError),
     Written { len: usize, state: State },
 }
 
 // Where an output's script stands: in the file or in the script table, that there is none, or the refusal.
-#[derive(Drop)]
+#[derive(Clone, Copy)]
 pub enum OutputScript {
     Refused(PsbtError),
     Absent,

@@ -1,4 +1,6 @@
 // Whether the network heeds the lock that was decided, as a line of text.
+#![tactic(auto)]
+
 ghost use Rattle.std.specs.Prelude.{◌≡◌};
 ghost use Rattle.format.specs.Locks.{lock_of};
 ghost use Rattle.text.specs.Spots.{spot, lay};
@@ -9,7 +11,7 @@ use text::{put, put_decimal};
 use typed::input::sequence;
 
 // What the network makes of a lock: it ignores it, or the first input that isn't final has it heeded.
-#[derive(Drop)]
+#[derive(Clone, Copy)]
 pub enum Heed {
     Ignored,
     By(u64),

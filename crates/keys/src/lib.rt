@@ -1,4 +1,6 @@
 // The order of keys: byte by byte, a prefix first.
+#![tactic(auto)]
+
 ghost use Rattle.std.specs.Prelude.{◌≡◌, [], ◌+◌, ◌≤◌, length};
 ghost use Rattle.format.specs.Keys.{order, is_below_def, is_same_def, key_of, same};
 ghost use Rattle.keys.specs.Fronts.{block_at, Front};

@@ -1,4 +1,6 @@
 // What is known of a file so far, pair by pair and map by map, and what the rules say of it: no table is needed for the verdict.
+#![tactic(auto)]
+
 ghost use Rattle.std.specs.Prelude.{◌≡◌, []};
 ghost use Rattle.format.specs.Content.{size_value, output_by};
 ghost use Rattle.format.specs.Rules.{and_then};
@@ -16,7 +18,7 @@ use wire::{signed, u32_from_le_bytes, u64_from_compact_size};
 
 // What is known of the global map: its fields without key data. An absent count is 0 and has its flag unset; the flags
 // stand behind the wider fields.
-#[derive(Drop)]
+#[derive(Clone, Copy)]
 pub struct Globals {
     pub tx_version: Maybe,
     pub fallback_locktime: Maybe,
@@ -29,7 +31,7 @@ pub struct Globals {
 }
 
 // Which of script 04, code 09 and label 0a the output that is read has.
-#[derive(Drop)]
+#[derive(Clone, Copy)]
 pub struct Seen {
     pub script: bool,
     pub code: bool,
@@ -46,7 +48,7 @@ const UNSEEN: Seen = Seen {
 // What is known of a file so far: the global fields, how many inputs and outputs are still to come, what the output that
 // is read has, what the rules say of the outputs so far, and the kind of the map that is read (last, where it leaves
 // no gap before the wider fields: copying one costs time at each pair).
-#[derive(Drop)]
+#[derive(Clone, Copy)]
 pub struct Known {
     pub globals: Globals,
     pub inputs: u64,
@@ -57,14 +59,14 @@ pub struct Known {
 }
 
 // What is known where a map ended, or the refusal.
-#[derive(Drop)]
+#[derive(Clone, Copy)]
 pub enum Closed {
     Bad(PsbtError),
     Good(Known),
 }
 
 // What follows a map: a refusal, the end of the file, or another map with what is known before it.
-#[derive(Drop)]
+#[derive(Clone, Copy)]
 pub enum Next {
     Stop(PsbtError),
     Done(Psbt),

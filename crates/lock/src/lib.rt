@@ -1,4 +1,6 @@
 // The lock time of a transaction, and what decided it. Nothing else looks inside the rule.
+#![tactic(auto)]
+
 ghost use Rattle.std.specs.Prelude.{◌≡◌, ◌+◌};
 ghost use Rattle.format.specs.Tables.{view};
 ghost use Rattle.format.specs.Locks.{lock_of};
@@ -13,7 +15,7 @@ use all_maps_fit::{InputAt, SizedAt};
 use format::{Lock, Looked, Maybe, Psbt, PsbtError, Ruled, THRESHOLD};
 
 // What an input asks for by one of its fields.
-#[derive(Drop)]
+#[derive(Clone, Copy)]
 pub enum Wish {
     Nothing,
     Wrong,
@@ -21,7 +23,7 @@ pub enum Wish {
 }
 
 // The greatest number asked for and the input that asks for it, and the input that asks first.
-#[derive(Drop)]
+#[derive(Clone, Copy)]
 pub struct Most {
     pub first: u64,
     pub number: u32,
@@ -29,21 +31,21 @@ pub struct Most {
 }
 
 // What inputs ask for by one kind of lock.
-#[derive(Drop)]
+#[derive(Clone, Copy)]
 pub enum Kind {
     Unasked,
     Asked(Most),
 }
 
 // The first input with a field of a wrong length.
-#[derive(Drop)]
+#[derive(Clone, Copy)]
 pub enum Fault {
     Nowhere,
     Input(u64),
 }
 
 // What inputs ask for.
-#[derive(Drop)]
+#[derive(Clone, Copy)]
 pub struct Asks {
     pub fault: Fault,
     pub height: Kind,
@@ -51,7 +53,7 @@ pub struct Asks {
 }
 
 // The lock time, or the refusal.
-#[derive(Drop)]
+#[derive(Clone, Copy)]
 pub enum LockTime {
     Refused(PsbtError),
     Is(u32),

@@ -1,4 +1,6 @@
 // Lines of text about the lock: what is asked, what decided it, and whether a transaction is given.
+#![tactic(auto)]
+
 ghost use Rattle.std.specs.Prelude.{◌≡◌};
 ghost use Rattle.text.specs.Spots.{spot, lay};
 ghost use Rattle.lock_lines.specs.Lines.{height_number, time_number, lock_text, fallback_text, head_line, height_text, time_text, input_name};

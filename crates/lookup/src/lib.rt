@@ -1,4 +1,6 @@
 // Lookups and listings in a map of lent tables, which may hold anything.
+#![tactic(auto)]
+
 ghost use Rattle.std.specs.Prelude.{◌≡◌, ◌+◌, ◌≤◌};
 ghost use Rattle.format.specs.Keys.{type_of, key_of, same};
 ghost use Rattle.format.specs.Entries.{key_in_def};
@@ -14,7 +16,7 @@ use fitness::{Fit, bytes_at, fit_map, key_in, value_in};
 use format::{Listing, Looked, MapEntry, Nth, Numbered, PUBKEY_LEN, PairEntry, Psbt, PsbtError};
 
 // Which lengths of a value are right: any, one of so many bytes, a list of public keys that is not empty.
-#[derive(Drop)]
+#[derive(Clone, Copy)]
 pub enum Wanted {
     AnyLength,
     Exactly(usize),

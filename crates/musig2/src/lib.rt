@@ -1,4 +1,6 @@
 // MuSig2: nonces, signatures and participants, by keys that are put together of parts.
+#![tactic(auto)]
+
 ghost use Rattle.std.specs.Prelude.{◌≡◌, true, ◌++◌};
 ghost use Rattle.format.specs.Keys.{key_of};
 ghost use Rattle.format.specs.Lookups.{asked};

@@ -1,4 +1,6 @@
 // An output's script: 04 in the file, else the one that the signer set.
+#![tactic(auto)]
+
 ghost use Rattle.std.specs.Prelude.{◌≡◌, ◌+◌, ◌≤◌};
 ghost use Rattle.format.specs.Tables.{held_output, holds};
 ghost use Rattle.format.specs.Transaction.{output_script_def, script_part};

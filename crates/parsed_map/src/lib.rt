@@ -1,4 +1,6 @@
 // What stands at the front of a file's remaining part: a pair, a map's end, or a refusal.
+#![tactic(auto)]
+
 ghost use Rattle.std.specs.Prelude.{◌≡◌, length};
 ghost use Rattle.format.specs.Keys.{order};
 ghost use Rattle.parsed_map.specs.Fronts.{head_of, order_rule, KeyIn, value_of, item_of};
@@ -7,7 +9,7 @@ use format::{Order, PsbtError, Ruled};
 use wire::{Cursor, Prefixed, SizeRead, Taken};
 
 // What stands where a pair may begin. Places count from the front.
-#[derive(Drop)]
+#[derive(Clone, Copy)]
 pub enum Item {
     Stop(PsbtError),
     // The map's end: how many bytes it takes.
@@ -22,7 +24,7 @@ pub enum Item {
 }
 
 // What stands where a key may begin.
-#[derive(Drop)]
+#[derive(Clone, Copy)]
 pub enum Head {
     Stop(PsbtError),
     // The map's end: how many bytes it takes.

@@ -1,4 +1,6 @@
 // Reading a file into two lent tables: `parse`.
+#![tactic(auto)]
+
 ghost use Rattle.std.specs.Prelude.{◌≡◌, length, take};
 ghost use Rattle.format.specs.Keys.{same};
 ghost use Rattle.format.specs.Content.{magic};
@@ -14,7 +16,7 @@ use known_so_far::{Known, Next, after_map, first_map, note_pair};
 use parsed_map::{Item, next_item};
 
 // What stands at a place of the file: a refusal, the map's end with the place behind it, or a pair's entry.
-#[derive(Drop)]
+#[derive(Clone, Copy)]
 pub enum Step {
     Stop(PsbtError),
     Over(usize),

@@ -1,4 +1,6 @@
 // What a refusal means, in words, put into a lent buffer.
+#![tactic(auto)]
+
 ghost use Rattle.std.specs.Prelude.{◌≡◌};
 ghost use Rattle.text.specs.Spots.{spot, lay};
 ghost use Rattle.reasons.specs.Rows.{Begins, Ends, line};

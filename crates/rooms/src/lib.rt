@@ -1,4 +1,6 @@
 // What the programs that print a file's text have room for, and the memory that they lend.
+#![tactic(auto)]
+
 ghost use Rattle.std.specs.Prelude.{◌≡◌, ◌+◌, ◌*◌, length};
 ghost use Rattle.format.specs.Entries.{pair_words, map_words};
 ghost use Rattle.rooms.specs.Limits.{longest, most_pairs, most_maps};

@@ -1,4 +1,6 @@
 // The script table: where an output's entry stands, and whether it is one that the setter writes.
+#![tactic(auto)]
+
 ghost use Rattle.std.specs.Prelude.{◌≡◌};
 ghost use Rattle.format.specs.Scripts.{taproot};
 ghost use Rattle.scripts.specs.Tables.{entry_at, blank, filled, fits_by};

@@ -1,4 +1,6 @@
 // The setter: scripts that the signer gives to the outputs without one.
+#![tactic(auto)]
+
 ghost use Rattle.std.specs.Prelude.{◌≡◌, ◌∷◌, ◌+◌, ◌*◌, ◌<◌, ◌≤◌, length, replicate};
 ghost use Rattle.format.specs.Tests.{every};
 ghost use Rattle.format.specs.Content.{present};
@@ -18,7 +20,7 @@ use format::{Assignment, Psbt, PsbtError, Ruled, ScriptsSet, State};
 const RECORD: usize = 3;
 
 // The first assignment that names an output, if any does.
-#[derive(Drop)]
+#[derive(Clone, Copy)]
 enum Naming {
     Nobody,
     By(Assignment),

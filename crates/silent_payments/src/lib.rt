@@ -1,4 +1,6 @@
 // Silent payments: what stands under a scan key, of the whole file and of an input.
+#![tactic(auto)]
+
 ghost use Rattle.std.specs.Prelude.{◌≡◌};
 ghost use Rattle.format.specs.Fields.{scan_lookup};
 ghost use Rattle.fitness.specs.Fits.{held_of, Within};

@@ -1,4 +1,6 @@
 // The line that says where a refused parse stopped, by the tables as they were left.
+#![tactic(auto)]
+
 ghost use Rattle.std.specs.Prelude.{◌≡◌};
 ghost use Rattle.text.specs.Spots.{spot, lay};
 ghost use Rattle.stop_lines.specs.Stops.{one_of, pairs_before, pairs_passed, count_shown, behind_global, place_at, stopped, after_pairs, numbered_line, stop_line};
@@ -8,7 +10,7 @@ use text::{put, put_decimal};
 
 // Where a parse stopped: nothing was read; in the global map or at its end; in an input or an output; behind the last map.
 // `pairs` of the map had passed.
-#[derive(Drop)]
+#[derive(Clone, Copy)]
 pub enum Place {
     Nowhere,
     Global { pairs: usize },

@@ -1,4 +1,6 @@
 // The setter over a lent slice of records: turn by turn the whole list is walked for one question.
+#![tactic(auto)]
+
 ghost use Rattle.std.specs.Prelude.{◌≡◌, ◌*◌};
 ghost use Rattle.format.specs.Content.{present};
 ghost use Rattle.format.specs.Tables.{view, gather, maps_reported};
@@ -13,7 +15,7 @@ ghost use Rattle.struct_setter.specs.Turns.{begun, going, answer_of, allowed_too
 use format::{Assignment, Psbt, PsbtError, Ruled, ScriptsSet, State};
 
 // How often an output is named: never, once, or more often, and by which assignment first.
-#[derive(Drop)]
+#[derive(Clone, Copy)]
 enum Names {
     Nobody,
     Once(Assignment),
@@ -22,7 +24,7 @@ enum Names {
 
 // What is asked of the list: whether each record is right by itself, whether an output is served, which script an output
 // gets; or nothing more.
-#[derive(Drop)]
+#[derive(Clone, Copy)]
 enum Task {
     Check(bool),
     Serve { output: u64, names: Names },

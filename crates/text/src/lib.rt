@@ -1,4 +1,6 @@
 // Text put into a lent buffer piece by piece, as far as it has room: bytes, hex digits, decimal numbers.
+#![tactic(auto)]
+
 ghost use Rattle.std.specs.Prelude.{◌≡◌, ◌<◌};
 ghost use Rattle.text.specs.Spots.{spot, lay_byte, lay};
 ghost use Rattle.text.specs.Spelled.{digit as Spelled·digit, hex_byte, hex, hex_or_dash, decimal, signed_decimal};

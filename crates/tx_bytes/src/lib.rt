@@ -1,4 +1,6 @@
 // Writes the bytes of an unsigned transaction into a lent buffer that has the room for them.
+#![tactic(auto)]
+
 ghost use Rattle.std.specs.Prelude.{◌≡◌, ◌+◌, ◌≤◌, length};
 ghost use Rattle.format.specs.Numbers.{bytes_of, unsigned};
 ghost use Rattle.format.specs.Transaction.{or_final};

@@ -1,4 +1,6 @@
 // How many bytes an unsigned transaction takes, and whether each output has what it needs: an amount, and a script in the file or in the script table.
+#![tactic(auto)]
+
 ghost use Rattle.std.specs.Prelude.{◌≡◌, ◌+◌, ◌^◌, ◌<◌};
 ghost use Rattle.format.specs.Transaction.{set_so_far};
 ghost use Rattle.scripts.specs.Tables.{entry_at};
@@ -10,14 +12,14 @@ use all_maps_fit::{FoundAt, SizedAt};
 use format::{Looked, MapEntry, PSBT_OUT_AMOUNT, PSBT_OUT_SCRIPT, Psbt, PsbtError, State};
 
 // How many bytes something takes, or the refusal.
-#[derive(Drop)]
+#[derive(Clone, Copy)]
 pub enum Measure {
     Refused(PsbtError),
     Takes(u64),
 }
 
 // Where an output's script stands: in the file, or in its entry of the script table.
-#[derive(Drop)]
+#[derive(Clone, Copy)]
 pub enum ScriptAt {
     Missing,
     InFile { start: usize, len: usize },

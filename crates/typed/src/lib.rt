@@ -1,4 +1,6 @@
 // Typed fields of inputs and outputs: thin calls over the lookup of a part and of a number.
+#![tactic(auto)]
+
 ghost use Rattle.std.specs.Prelude.{◌≡◌, ◌≤◌};
 ghost use Rattle.format.specs.Tables.{held_input, held_output};
 ghost use Rattle.format.specs.Fields.{part_field_def, number_field};

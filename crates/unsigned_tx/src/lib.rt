@@ -1,4 +1,6 @@
 // The unsigned transaction: measured and judged first, then written, so that a refusal writes nothing.
+#![tactic(auto)]
+
 ghost use Rattle.std.specs.Prelude.{◌≡◌, ◌&&◌};
 ghost use Rattle.format.specs.Transaction.{set_so_far, scripts_fit, table_fits, tx_with, tx_out, written, unsigned_tx_def};
 ghost use Rattle.format.specs.Told.{told_left, told_tx, told_tx_out};
@@ -12,7 +14,7 @@ use lock::{Asks, LockTime};
 use tx_size::Measure;
 
 // What all inputs ask of the lock, and whether each has what a transaction needs.
-#[derive(Drop)]
+#[derive(Clone, Copy)]
 pub struct Survey {
     pub asks: Asks,
     pub ok: bool,

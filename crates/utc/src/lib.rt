@@ -1,4 +1,6 @@
 // The UTC date of a number of seconds since the start of 1970, as text in a lent buffer.
+#![tactic(auto)]
+
 ghost use Rattle.std.specs.Prelude.{◌≡◌};
 ghost use Rattle.text.specs.Spots.{spot, lay};
 ghost use Rattle.utc.specs.Dates.{leap, year_length, is_short, month_length, year_of, month_of, two_digits, ymd_text, day_text, hour_text, date_text};
@@ -24,7 +26,7 @@ const HOURS: u64 = 24;
 const DAY: u64 = 86_400;
 
 // A year or a month, and a day's number in it, from 1.
-#[derive(Drop)]
+#[derive(Clone, Copy)]
 pub struct Stand {
     pub number: u64,
     pub day: u64,

@@ -1,4 +1,6 @@
 // Reads a file from standard input and writes to standard output what it asks of the lock and what was decided.
+#![tactic(auto)]
+
 use why_text::why_input;
 
 // From standard input to standard output.

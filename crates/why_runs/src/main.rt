@@ -1,4 +1,6 @@
 // Writes the texts of the stored files that its arguments name, one after the other, to standard output.
+#![tactic(auto)]
+
 use why_text::why_input;
 
 // The text of the file that argument `i` names.

@@ -1,5 +1,7 @@
 // The text that `why` prints of a file: what its inputs ask of the lock, what decided it, whether a transaction is given, and whether the network
 // heeds the lock; of a refused file what refused it, and where.
+#![tactic(auto)]
+
 ghost use Rattle.std.specs.Prelude.{◌≡◌, ◌≤◌, length, take};
 ghost use Rattle.text.specs.Spots.{spot, lay};
 ghost use Rattle.why_text.specs.Why.{height_asked, time_asked, inputs_text, accepted_text, refused_text, why_in, why};

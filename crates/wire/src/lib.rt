@@ -1,4 +1,6 @@
 // Little-endian numbers, compact sizes, and a cursor that reads them.
+#![tactic(auto)]
+
 ghost use Rattle.std.specs.Prelude.{◌≡◌, ◌≤◌, length};
 ghost use Rattle.format.specs.Numbers.{le, signed};
 ghost use Rattle.format.specs.Compact.{size, count, count_by_def};
@@ -113,27 +115,27 @@ pub fn read_size(s: &[u8]) -> Size
 }
 
 // A place in a buffer.
-#[derive(Drop)]
+#[derive(Clone, Copy)]
 pub struct Cursor {
     pub pos: usize,
 }
 
 // What taking some bytes at a cursor finds: where they stand, and the cursor behind them.
-#[derive(Drop)]
+#[derive(Clone, Copy)]
 pub enum Taken {
     Bad(PsbtError),
     Part { start: usize, next: Cursor },
 }
 
 // What reading a compact size at a cursor finds: its value, and the cursor behind it.
-#[derive(Drop)]
+#[derive(Clone, Copy)]
 pub enum SizeRead {
     Bad(PsbtError),
     Read { value: u64, next: Cursor },
 }
 
 // What reading bytes behind their length finds: where they stand, how many they are, and the cursor behind them.
-#[derive(Drop)]
+#[derive(Clone, Copy)]
 pub enum Prefixed {
     Bad(PsbtError),
     Part {

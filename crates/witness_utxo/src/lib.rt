@@ -1,4 +1,6 @@
 // The witness UTXO of an input: its amount, and its script.
+#![tactic(auto)]
+
 ghost use Rattle.std.specs.Prelude.{◌≡◌};
 ghost use Rattle.format.specs.Tables.{held_input};
 ghost use Rattle.format.specs.Fields.{utxo_of, utxo_by, utxo_part, get_witness_utxo};

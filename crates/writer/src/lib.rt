@@ -1,4 +1,6 @@
 // Writes numbers, compact sizes and parts into a lent buffer, at a place that has the room.
+#![tactic(auto)]
+
 ghost use Rattle.std.specs.Prelude.{◌≡◌, ◌∷◌, ◌+◌, ◌<◌, ◌≤◌, length};
 ghost use Rattle.format.specs.Numbers.{bytes_of, unsigned};
 ghost use Rattle.format.specs.Compact.{shortest};

@@ -7,10 +7,10 @@ use Rattle.all_maps_fit.proofs.Gathers.{Going, alls}
 use Rattle.all_maps_fit.proofs.all_fit.Statement.{statement}
 use Rattle.all_maps_fit.proofs.all_fit.Tie as tie
 
-abbrev invariant-loop : tie.invariant-loop
+abbrev invariant-loop : tie.invariant-loop-psbt
 invariant-loop file pairs maps psbt m₀ m = Going file pairs maps psbt m
 
-abbrev decreases-loop : tie.decreases-loop
+abbrev decreases-loop : tie.decreases-loop-psbt
 decreases-loop file pairs maps psbt m₀ m = maps_reported psbt - m
 
 -- needs: needs, alls

@@ -5,10 +5,10 @@ use Rattle.all_maps_fit.proofs.Inputs.{Noting, notings}
 use Rattle.all_maps_fit.proofs.input_at.Statement.{statement}
 use Rattle.all_maps_fit.proofs.input_at.Tie as tie
 
-abbrev invariant-loop : tie.invariant-loop
+abbrev invariant-loop : tie.invariant-loop-left
 invariant-loop file pairs at₀ i₀ left₀ at i left = Noting file pairs i₀ left₀ at i left
 
-abbrev decreases-loop : tie.decreases-loop
+abbrev decreases-loop : tie.decreases-loop-left
 decreases-loop file pairs at₀ i₀ left₀ at i left = left
 
 -- needs: needs, notings

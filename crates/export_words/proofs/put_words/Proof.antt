@@ -6,10 +6,10 @@ use Rattle.writer.proofs.Puts.{Copying, copies}
 use Rattle.export_words.proofs.put_words.Statement.{statement}
 use Rattle.export_words.proofs.put_words.Tie as tie
 
-abbrev invariant-loop : tie.invariant-loop
+abbrev invariant-loop : tie.invariant-loop-j
 invariant-loop buf₀ at src j₀ buf j = Copying buf₀ at src buf j
 
-abbrev decreases-loop : tie.decreases-loop
+abbrev decreases-loop : tie.decreases-loop-j
 decreases-loop buf₀ at src j₀ buf j = length src - j
 
 -- needs: needs, copies

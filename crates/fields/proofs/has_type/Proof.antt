@@ -6,10 +6,10 @@ use Rattle.fields.proofs.Types.{TypeFrom, types}
 use Rattle.fields.proofs.has_type.Statement.{statement}
 use Rattle.fields.proofs.has_type.Tie as tie
 
-abbrev invariant-loop : tie.invariant-loop
+abbrev invariant-loop : tie.invariant-loop-i
 invariant-loop t rs i₀ i = TypeFrom rs t i
 
-abbrev decreases-loop : tie.decreases-loop
+abbrev decreases-loop : tie.decreases-loop-i
 decreases-loop t rs i₀ i = length rs - i
 
 -- needs: needs, types

@@ -6,10 +6,10 @@ use Rattle.fields.proofs.Rows.{From, rows}
 use Rattle.fields.proofs.sizes_in.Statement.{statement}
 use Rattle.fields.proofs.sizes_in.Tie as tie
 
-abbrev invariant-loop : tie.invariant-loop
+abbrev invariant-loop : tie.invariant-loop-i
 invariant-loop k t n m rs i₀ i = From rs k t n m i
 
-abbrev decreases-loop : tie.decreases-loop
+abbrev decreases-loop : tie.decreases-loop-i
 decreases-loop k t n m rs i₀ i = length rs - i
 
 -- needs: needs, rows

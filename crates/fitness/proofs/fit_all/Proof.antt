@@ -6,10 +6,10 @@ use Rattle.fitness.specs.Fits.{entries_of}
 use Rattle.fitness.proofs.fit_all.Statement.{statement}
 use Rattle.fitness.proofs.fit_all.Tie as tie
 
-abbrev invariant-loop : tie.invariant-loop
+abbrev invariant-loop : tie.invariant-loop-unseen
 invariant-loop file pairs i₀ unseen₀ last₀ i unseen last = Fitting file pairs i₀ unseen₀ i unseen last
 
-abbrev decreases-loop : tie.decreases-loop
+abbrev decreases-loop : tie.decreases-loop-unseen
 decreases-loop file pairs i₀ unseen₀ last₀ i unseen last = unseen
 
 -- needs: needs, fittings | entriesOf

@@ -9,10 +9,10 @@ use Rattle.heed_lines.proofs.heed_of.Lts as lts
 use Rattle.heed_lines.proofs.is_final.Reads as is-final-reads
 use Rattle.typed.proofs.input.sequence.Reads as sequence-reads
 
-abbrev invariant-loop : tie.invariant-loop
+abbrev invariant-loop : tie.invariant-loop-i
 invariant-loop file pairs maps psbt i₀ i = Heeding file pairs maps psbt i
 
-abbrev decreases-loop : tie.decreases-loop
+abbrev decreases-loop : tie.decreases-loop-i
 decreases-loop file pairs maps psbt i₀ i = psbt.inputs - i
 
 -- needs: needs, heeding

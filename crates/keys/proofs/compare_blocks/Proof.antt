@@ -7,10 +7,10 @@ use Rattle.keys.proofs.Orders.{On, orders}
 use Rattle.keys.proofs.compare_blocks.Statement.{statement}
 use Rattle.keys.proofs.compare_blocks.Tie as tie
 
-abbrev invariant-loop : tie.invariant-loop
+abbrev invariant-loop : tie.invariant-loop-i
 invariant-loop a b i₀ i = On a b i
 
-abbrev decreases-loop : tie.decreases-loop
+abbrev decreases-loop : tie.decreases-loop-i
 decreases-loop a b i₀ i = length a - i
 
 -- needs: needs, orders

@@ -6,10 +6,10 @@ use Rattle.lock.proofs.Locks.{Walking, walks}
 use Rattle.lock.proofs.all_asks.Statement.{statement}
 use Rattle.lock.proofs.all_asks.Tie as tie
 
-abbrev invariant-loop : tie.invariant-loop
+abbrev invariant-loop : tie.invariant-loop-i
 invariant-loop file pairs maps psbt asks₀ i₀ asks i = Walking file pairs maps psbt asks i
 
-abbrev decreases-loop : tie.decreases-loop
+abbrev decreases-loop : tie.decreases-loop-i
 decreases-loop file pairs maps psbt asks₀ i₀ asks i = psbt.inputs - i
 
 -- needs: needs, walks

@@ -7,10 +7,10 @@ use Rattle.lookup.proofs.Finds.{Finding, findings}
 use Rattle.lookup.proofs.find_place.Statement.{statement}
 use Rattle.lookup.proofs.find_place.Tie as tie
 
-abbrev invariant-loop : tie.invariant-loop
+abbrev invariant-loop : tie.invariant-loop-left
 invariant-loop file pairs key_type key_data i₀ left₀ i left = Finding file (key_of key_type key_data) pairs i₀ left₀ i left
 
-abbrev decreases-loop : tie.decreases-loop
+abbrev decreases-loop : tie.decreases-loop-left
 decreases-loop file pairs key_type key_data i₀ left₀ i left = left
 
 -- needs: needs, findings | entriesOf

@@ -7,12 +7,12 @@ use Rattle.lookup.proofs.Lists.{Counting, countings}
 use Rattle.lookup.proofs.list_entries.Statement.{statement}
 use Rattle.lookup.proofs.list_entries.Tie as tie
 
-abbrev invariant-loop : tie.invariant-loop
+abbrev invariant-loop : tie.invariant-loop-rest
 invariant-loop file pairs key_type i₀ rest₀ first₀ count₀ i rest first count =
     Counting (is_before file key_type) pairs i₀ rest₀ i rest first
     × Counting (is_listed file key_type) pairs i₀ rest₀ i rest count
 
-abbrev decreases-loop : tie.decreases-loop
+abbrev decreases-loop : tie.decreases-loop-rest
 decreases-loop file pairs key_type i₀ rest₀ first₀ count₀ i rest first count = rest
 
 -- needs: needs, countings | entriesOf

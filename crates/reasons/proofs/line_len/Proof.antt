@@ -8,10 +8,10 @@ use Rattle.reasons.proofs.line_len.Tie as tie
 use Rattle.reasons.proofs.line_len.Reads as reads
 use Rattle.reasons.proofs.line_len.Lts as lts
 
-abbrev invariant-loop : tie.invariant-loop
+abbrev invariant-loop : tie.invariant-loop-i
 invariant-loop text i₀ i = Along text i
 
-abbrev decreases-loop : tie.decreases-loop
+abbrev decreases-loop : tie.decreases-loop-i
 decreases-loop text i₀ i = length text - i
 
 -- needs: needs, ends

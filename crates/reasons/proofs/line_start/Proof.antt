@@ -8,10 +8,10 @@ use Rattle.reasons.proofs.line_start.Tie as tie
 use Rattle.reasons.proofs.line_start.Reads as reads
 use Rattle.reasons.proofs.line_start.Lts as lts
 
-abbrev invariant-loop : tie.invariant-loop
+abbrev invariant-loop : tie.invariant-loop-i
 invariant-loop text n i₀ left₀ i left = Passing text n i left
 
-abbrev decreases-loop : tie.decreases-loop
+abbrev decreases-loop : tie.decreases-loop-i
 decreases-loop text n i₀ left₀ i left = length text - i
 
 -- needs: needs, starts

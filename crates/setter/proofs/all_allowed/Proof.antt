@@ -6,10 +6,10 @@ use Rattle.setter.proofs.Records.{Passing, passes}
 use Rattle.setter.proofs.all_allowed.Statement.{statement}
 use Rattle.setter.proofs.all_allowed.Tie as tie
 
-abbrev invariant-loop : tie.invariant-loop
+abbrev invariant-loop : tie.invariant-loop-k
 invariant-loop outputs list buffer count k₀ k = Passing (allowed outputs buffer) list k
 
-abbrev decreases-loop : tie.decreases-loop
+abbrev decreases-loop : tie.decreases-loop-k
 decreases-loop outputs list buffer count k₀ k = count - k
 
 -- needs: needs, passes

@@ -5,10 +5,10 @@ use Rattle.setter.proofs.Rights.{Serving, servings}
 use Rattle.setter.proofs.all_served.Statement.{statement}
 use Rattle.setter.proofs.all_served.Tie as tie
 
-abbrev invariant-loop : tie.invariant-loop
+abbrev invariant-loop : tie.invariant-loop-i
 invariant-loop file pairs maps psbt list i₀ i = Serving file pairs maps psbt list i
 
-abbrev decreases-loop : tie.decreases-loop
+abbrev decreases-loop : tie.decreases-loop-i
 decreases-loop file pairs maps psbt list i₀ i = psbt.outputs - i
 
 -- needs: needs, servings

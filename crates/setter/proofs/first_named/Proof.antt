@@ -5,10 +5,10 @@ use Rattle.setter.proofs.Records.{Seeking, seeks}
 use Rattle.setter.proofs.first_named.Statement.{statement}
 use Rattle.setter.proofs.first_named.Tie as tie
 
-abbrev invariant-loop : tie.invariant-loop
+abbrev invariant-loop : tie.invariant-loop-k
 invariant-loop list i count k₀ k = Seeking list i k
 
-abbrev decreases-loop : tie.decreases-loop
+abbrev decreases-loop : tie.decreases-loop-k
 decreases-loop list i count k₀ k = count - k
 
 -- needs: needs, seeks

@@ -5,10 +5,10 @@ use Rattle.setter.proofs.Fills.{Filling, fillings}
 use Rattle.setter.proofs.put_entries.Statement.{statement}
 use Rattle.setter.proofs.put_entries.Tie as tie
 
-abbrev invariant-loop : tie.invariant-loop
+abbrev invariant-loop : tie.invariant-loop-i
 invariant-loop table₀ outputs list buffer i₀ table i = Filling table₀ outputs list buffer table i
 
-abbrev decreases-loop : tie.decreases-loop
+abbrev decreases-loop : tie.decreases-loop-i
 decreases-loop table₀ outputs list buffer i₀ table i = outputs - i
 
 -- needs: needs, fillings

@@ -6,10 +6,10 @@ use Rattle.text.proofs.Lays.{Laying, lays}
 use Rattle.text.proofs.put.Statement.{statement}
 use Rattle.text.proofs.put.Tie as tie
 
-abbrev invariant-loop : tie.invariant-loop
+abbrev invariant-loop : tie.invariant-loop-i
 invariant-loop out₀ at text to₀ i₀ out to i = Laying at out₀ text to out i
 
-abbrev decreases-loop : tie.decreases-loop
+abbrev decreases-loop : tie.decreases-loop-i
 decreases-loop out₀ at text to₀ i₀ out to i = length text - i
 
 -- needs: needs, lays

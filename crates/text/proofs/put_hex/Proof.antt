@@ -6,10 +6,10 @@ use Rattle.text.proofs.Lays.{Hexing, hexes}
 use Rattle.text.proofs.put_hex.Statement.{statement}
 use Rattle.text.proofs.put_hex.Tie as tie
 
-abbrev invariant-loop : tie.invariant-loop
+abbrev invariant-loop : tie.invariant-loop-i
 invariant-loop out₀ at bytes to₀ i₀ out to i = Hexing at out₀ bytes to out i
 
-abbrev decreases-loop : tie.decreases-loop
+abbrev decreases-loop : tie.decreases-loop-i
 decreases-loop out₀ at bytes to₀ i₀ out to i = length bytes - i
 
 -- needs: needs, hexes

@@ -6,10 +6,10 @@ use Rattle.utc.proofs.Stands.{Months, months}
 use Rattle.utc.proofs.month_of.Statement.{statement}
 use Rattle.utc.proofs.month_of.Tie as tie
 
-abbrev invariant-loop : tie.invariant-loop
+abbrev invariant-loop : tie.invariant-loop-m
 invariant-loop year day m₀ d₀ m d = Months year day m d
 
-abbrev decreases-loop : tie.decreases-loop
+abbrev decreases-loop : tie.decreases-loop-m
 decreases-loop year day m₀ d₀ m d = 12 - m
 
 -- needs: needs, months

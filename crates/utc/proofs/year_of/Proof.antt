@@ -4,10 +4,10 @@ use Rattle.utc.proofs.Stands.{Years, years}
 use Rattle.utc.proofs.year_of.Statement.{statement}
 use Rattle.utc.proofs.year_of.Tie as tie
 
-abbrev invariant-loop : tie.invariant-loop
+abbrev invariant-loop : tie.invariant-loop-long
 invariant-loop day y₀ d₀ long₀ y d long = Years day y d long
 
-abbrev decreases-loop : tie.decreases-loop
+abbrev decreases-loop : tie.decreases-loop-long
 decreases-loop day y₀ d₀ long₀ y d long = d
 
 -- needs: needs, years

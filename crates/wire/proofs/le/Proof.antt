@@ -9,10 +9,10 @@ use Rattle.wire.proofs.Leads.{les}
 use Rattle.wire.proofs.le.Statement.{statement}
 use Rattle.wire.proofs.le.Tie as tie
 
-abbrev invariant-loop : tie.invariant-loop
+abbrev invariant-loop : tie.invariant-loop-i
 invariant-loop s n v₀ i₀ v i = (n ≡ length s) × (i ≤ n) × (v ≡ le (drop (n - i) s))
 
-abbrev decreases-loop : tie.decreases-loop
+abbrev decreases-loop : tie.decreases-loop-i
 decreases-loop s n v₀ i₀ v i = n - i
 
 -- needs: needs, bytes, les

@@ -5,10 +5,10 @@ use Rattle.writer.proofs.Puts.{Putting, puts}
 use Rattle.writer.proofs.put_le.Statement.{statement}
 use Rattle.writer.proofs.put_le.Tie as tie
 
-abbrev invariant-loop : tie.invariant-loop
+abbrev invariant-loop : tie.invariant-loop-j
 invariant-loop buf₀ at value width left₀ j₀ buf left j = Putting buf₀ at value width buf left j
 
-abbrev decreases-loop : tie.decreases-loop
+abbrev decreases-loop : tie.decreases-loop-j
 decreases-loop buf₀ at value width left₀ j₀ buf left j = width - j
 
 -- needs: needs, puts

@@ -1,0 +1,121 @@
+-- `psbt::read_maps` is the definition's reading cut by the room: `Loops.antt` says what holds after each turn and at each way out.
+use Rattle.std.proofs.Common.{rules}
+use Rattle.psbt.proofs.Loops.{loops, one_key, one_value, one_writes, one_more, one_key_in, one_value_in}
+use Rattle.psbt.proofs.Loops.{one_less, one_again, exit_22, map_writes, exit_after, exit_done, maps_next}
+use Rattle.psbt.proofs.read_maps.Goals as goal
+
+pub maps-init : goal.maps-init
+maps-init c = search (rules, loops)
+
+pub write_pair-requires : goal.write_pair-requires
+write_pair-requires c =
+    search (one_writes, c.if-not-has_pair_room.false, c.has_pair_room.ensures, c.in-One.is, c.step_at-x.ensures, c.loop-e.invariant, c.requires)
+
+pub overflow_add-le : goal.overflow_add-le
+overflow_add-le c = search (one_key, c.in-One.is, c.step_at-x.ensures, c.loop-e.invariant, c.requires)
+
+pub overflow_add-at : goal.overflow_add-at
+overflow_add-at c = search (one_value, c.in-One.is, c.step_at-x.ensures, c.loop-e.invariant, c.requires)
+
+pub slice_bounds-note_pair-end : goal.slice_bounds-note_pair-end
+slice_bounds-note_pair-end c = search (rules, one_key_in, c.in-One.is, c.step_at-x.ensures, c.loop-e.invariant)
+
+pub slice_bounds-note_pair-end-in-One : goal.slice_bounds-note_pair-end-in-One
+slice_bounds-note_pair-end-in-One c = search (rules, one_value_in, c.in-One.is, c.step_at-x.ensures, c.loop-e.invariant)
+
+pub loop-e-smaller : goal.loop-e-smaller
+loop-e-smaller c = search (one_less, c.in-One.is, c.step_at-x.ensures, c.loop-e.invariant)
+
+pub loop-e-preserved : goal.loop-e-preserved
+loop-e-preserved c =
+    search (
+      one_again,
+      c.note_pair-known.ensures,
+      c.write_pair.ensures,
+      c.if-not-has_pair_room.false,
+      c.has_pair_room.ensures,
+      c.in-One.is,
+      c.step_at-x.ensures,
+      c.loop-e.invariant,
+    )
+
+pub write_map-requires : goal.write_map-requires
+write_map-requires c =
+    search (
+      map_writes,
+      c.in-Over.is,
+      c.step_at-x.ensures,
+      c.loop-e.invariant,
+      c.if-not-has_map_room.false,
+      c.has_map_room.ensures,
+      c.maps.invariant,
+      c.requires,
+    )
+
+pub maps-smaller : goal.maps-smaller
+maps-smaller c = search (rules, loops, c.in-Over.is, c.step_at-x.ensures, c.loop-e.invariant)
+
+pub maps-preserved : goal.maps-preserved
+maps-preserved c =
+    search (
+      maps_next,
+      c.in-Map.is,
+      c.after_map-t.ensures,
+      c.write_map.ensures,
+      c.in-Over.is,
+      c.step_at-x.ensures,
+      c.loop-e.invariant,
+      c.if-not-has_map_room.false,
+      c.has_map_room.ensures,
+      c.maps.invariant,
+    )
+
+pub returns-then-not-has_map_room : goal.returns-then-not-has_map_room
+returns-then-not-has_map_room c = search (rules, loops)
+
+pub returns-in-Stop : goal.returns-in-Stop
+returns-in-Stop c = search (rules, loops)
+
+pub returns-then-not-has_pair_room : goal.returns-then-not-has_pair_room
+returns-then-not-has_pair_room c =
+    search (
+      exit_22,
+      c.if-not-has_pair_room.true,
+      c.has_pair_room.ensures,
+      c.in-One.is,
+      c.step_at-x.ensures,
+      c.loop-e.invariant,
+      c.if-not-has_map_room.false,
+      c.has_map_room.ensures,
+      c.maps.invariant,
+    )
+
+pub returns-in-Stop-t : goal.returns-in-Stop-t
+returns-in-Stop-t c =
+    search (
+      exit_after,
+      c.in-Stop-t.is,
+      c.after_map-t.ensures,
+      c.write_map.ensures,
+      c.in-Over.is,
+      c.step_at-x.ensures,
+      c.loop-e.invariant,
+      c.if-not-has_map_room.false,
+      c.has_map_room.ensures,
+      c.maps.invariant,
+    )
+
+pub returns-in-Done : goal.returns-in-Done
+returns-in-Done c =
+    search (
+      exit_done,
+      c.in-Done.is,
+      c.after_map-t.ensures,
+      c.write_map.ensures,
+      c.in-Over.is,
+      c.step_at-x.ensures,
+      c.loop-e.invariant,
+      c.if-not-has_map_room.false,
+      c.has_map_room.ensures,
+      c.maps.invariant,
+    )
