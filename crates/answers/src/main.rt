@@ -8,6 +8,7 @@ use crate::memory::{
     BODY, BUFFER, CALLS, CUT, LIST, Record, cells, number, part, read_record, size_of, store_cells,
     store_numbers,
 };
+use std::io::{self, Read, Write};
 use text::{put, put_byte};
 
 mod calls;
@@ -118,18 +119,19 @@ fn store(
 }
 
 // Reads a record, and lends the memory that it has.
-fn next_record(
+fn next_record<R: Read>(
     stand: Stand,
+    input: &mut R,
     texts: &mut [u8; 2240562],
     pairs: &mut [u32; 32768],
     maps: &mut [u32; 4096],
     scripts: &mut [u8; 17920],
     out: &mut [u8; 65536],
-) -> Stand {
-    let record = read_record(texts);
+) -> io::Result<Stand> {
+    let record = read_record(input, texts)?;
     let body = part(texts, BODY, record.size);
     store(record.kind, body, pairs, maps, scripts, out);
-    after(stand, record, body)
+    Ok(after(stand, record, body))
 }
 
 // The lines end there.
@@ -347,37 +349,33 @@ fn answer(
     )
 }
 
-// Writes the lines.
-fn write_lines(lines: &[u8], at: usize) {
-    io::write_all(1, part(lines, 0, at));
-}
-
 // Ends a line, and writes the lines once they fill an eighth of the buffer: any one line fits the rest.
-fn end_line(lines: &mut [u8], at: usize) -> usize {
+fn end_line<W: Write>(output: &mut W, lines: &mut [u8], at: usize) -> io::Result<usize> {
     let to = put_byte(lines, at, b'\n');
     if to < lines.len() / 8 {
-        return to;
+        return Ok(to);
     }
-    write_lines(lines, to);
-    0
+    output.write_all(part(lines, 0, to))?;
+    Ok(0)
 }
 
 // Answers the next call of the body at hand.
-fn next_call(
+fn next_call<W: Write>(
     stand: Stand,
+    output: &mut W,
     texts: &[u8],
     pairs: &mut [u32; 32768],
     maps: &mut [u32; 4096],
     scripts: &mut [u8; 17920],
     out: &mut [u8; 65536],
     lines: &mut [u8; 524288],
-) -> Stand {
+) -> io::Result<Stand> {
     let mut s = stand;
     let mut args = [0u64; 8];
     let call = read_call(part(texts, BODY, stand.end), stand.next, &mut args);
     if call.next == 0 {
         s.how = CUT;
-        return s;
+        return Ok(s);
     }
     s.next = call.next;
     let done = answer(
@@ -391,59 +389,63 @@ fn next_call(
         out,
         lines,
     );
-    put_to(done, end_line(lines, done.at))
+    let at = end_line(output, lines, done.at)?;
+    Ok(put_to(done, at))
 }
 
 // Answers a call, or reads a record.
-fn turn(
+fn turn<R: Read, W: Write>(
     stand: Stand,
+    input: &mut R,
+    output: &mut W,
     texts: &mut [u8; 2240562],
     pairs: &mut [u32; 32768],
     maps: &mut [u32; 4096],
     scripts: &mut [u8; 17920],
     out: &mut [u8; 65536],
     lines: &mut [u8; 524288],
-) -> Stand {
+) -> io::Result<Stand> {
     if stand.next < stand.end {
-        return next_call(stand, texts, pairs, maps, scripts, out, lines);
+        return next_call(stand, output, texts, pairs, maps, scripts, out, lines);
     }
-    next_record(stand, texts, pairs, maps, scripts, out)
+    next_record(stand, input, texts, pairs, maps, scripts, out)
 }
 
 // Writes the last lines.
-fn finish(lines: &mut [u8], at: usize, how: u8) {
+fn finish<W: Write>(output: &mut W, lines: &mut [u8], at: usize, how: u8) -> io::Result<()> {
     if how == CUT {
         let to = put(lines, at, b"cut\n");
-        write_lines(lines, to);
-        return;
+        return output.write_all(part(lines, 0, to));
     }
-    write_lines(lines, at);
+    output.write_all(part(lines, 0, at))
 }
 
 // A proved loop has to end, and nothing says that the input does: so it counts its turns down, from a number that no
 // run uses up.
-fn run(
+fn run<R: Read, W: Write>(
+    input: &mut R,
+    output: &mut W,
     texts: &mut [u8; 2240562],
     pairs: &mut [u32; 32768],
     maps: &mut [u32; 4096],
     scripts: &mut [u8; 17920],
     out: &mut [u8; 65536],
     lines: &mut [u8; 524288],
-) {
+) -> io::Result<()> {
     let mut stand = begin();
     let mut turns = u64::MAX;
     while 0 < turns {
-        stand = turn(stand, texts, pairs, maps, scripts, out, lines);
+        stand = turn(stand, input, output, texts, pairs, maps, scripts, out, lines)?;
         if stand.how != 0 {
-            finish(lines, stand.at, stand.how);
-            return;
+            return finish(output, lines, stand.at, stand.how);
         }
         turns = turns - 1;
     }
+    Ok(())
 }
 
 // All memory is empty first.
-fn main() {
+fn main(rt: HostRuntime) -> io::Result<()> {
     let mut texts = [0u8; 2240562];
     let mut pairs = [0u32; 32768];
     let mut maps = [0u32; 4096];
@@ -451,11 +453,13 @@ fn main() {
     let mut out = [0u8; 65536];
     let mut lines = [0u8; 524288];
     run(
+        &mut rt.stdin(),
+        &mut io::writer(&rt),
         &mut texts,
         &mut pairs,
         &mut maps,
         &mut scripts,
         &mut out,
         &mut lines,
-    );
+    )
 }

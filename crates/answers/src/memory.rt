@@ -4,6 +4,8 @@ ghost use Rattle.std.specs.Prelude.{◌≤◌};
 
 use format::{LIMIT, Looked};
 use lookup::part_of;
+use rooms::read_full;
+use std::io::{self, Read};
 use wire::{u32_from_le_bytes, u64_from_le_bytes};
 
 // What a byte is that nothing was stored in.
@@ -136,19 +138,26 @@ fn fill(texts: &mut [u8], from: usize, end: usize) {
     }
 }
 
-// Reads `length` bytes to `from`, and fills the bytes behind them up to `size`.
-fn read_part(texts: &mut [u8], from: usize, length: usize, size: usize) -> bool {
+// Reads `length` bytes of the input to `from`, and fills the bytes behind them up to `size`.
+fn read_part<R: Read>(
+    input: &mut R,
+    texts: &mut [u8],
+    from: usize,
+    length: usize,
+    size: usize,
+) -> io::Result<bool> {
     if texts.len() < from {
-        return false;
+        return Ok(false);
     }
     if texts.len() - from < length {
-        return false;
+        return Ok(false);
     }
     if texts.len() - from < size {
-        return false;
+        return Ok(false);
     }
     fill(texts, from, from + size);
-    io::read_full(0, &mut texts[from..from + length]) == length
+    let got = read_full(input, &mut texts[from..from + length])?;
+    Ok(got == length)
 }
 
 // A record that is none.
@@ -161,37 +170,44 @@ fn nothing(kind: u8) -> Record {
 }
 
 // Reads a body.
-fn read_body(texts: &mut [u8], kind: u8, room: usize, length: usize) -> Record {
+fn read_body<R: Read>(
+    input: &mut R,
+    texts: &mut [u8],
+    kind: u8,
+    room: usize,
+    length: usize,
+) -> io::Result<Record> {
     let m = memory_of(kind);
     if !fits(m, room, length) {
-        return nothing(CUT);
+        return Ok(nothing(CUT));
     }
     let size = size_of(m.each, room);
-    if !read_part(texts, m.from, length, size) {
-        return nothing(CUT);
+    let whole = read_part(input, texts, m.from, length, size)?;
+    if !whole {
+        return Ok(nothing(CUT));
     }
-    Record { kind, room, size }
+    Ok(Record { kind, room, size })
 }
 
 // Reads one record. The room of calls is their length.
-pub fn read_record(texts: &mut [u8]) -> Record {
+pub fn read_record<R: Read>(input: &mut R, texts: &mut [u8]) -> io::Result<Record> {
     let mut head = [0u8; 9];
-    let got = io::read_full(0, &mut head);
+    let got = read_full(input, &mut head)?;
     if got == 0 {
-        return nothing(OVER);
+        return Ok(nothing(OVER));
     }
     if got < 9 {
-        return nothing(CUT);
+        return Ok(nothing(CUT));
     }
     let kind = head[0];
     let length = word(&head, 5);
     if CALLS < kind {
-        return nothing(CUT);
+        return Ok(nothing(CUT));
     }
     if kind == CALLS {
-        return read_body(texts, kind, length, length);
+        return read_body(input, texts, kind, length, length);
     }
-    read_body(texts, kind, word(&head, 1), length)
+    read_body(input, texts, kind, word(&head, 1), length)
 }
 
 // Stores as many cells as the bytes have.

@@ -1,9 +1,10 @@
 // Reads a file from standard input and writes its dump to standard output.
 #![tactic(auto)]
 
+use std::io;
 use dump_text::dump_input;
 
 // From standard input to standard output.
-fn main() {
-    dump_input(0, 1);
+fn main(rt: HostRuntime) -> io::Result<()> {
+    dump_input(&mut rt.stdin(), &mut io::writer(&rt))
 }

@@ -15,8 +15,9 @@ use entries::pair_entry;
 use fitness::{Fit, fit_map, is_reported};
 use format::{Looked, MapEntry, Nth, PairEntry, Parsed, Psbt, PsbtError, State, UnsignedTx};
 use lookup::{key_part, part_of, value_part};
-use rooms::{LONGEST, file_room, map_room, pair_room, tx_room};
+use rooms::{LONGEST, file_room, map_room, pair_room, read_full, tx_room};
 use text::{put, put_decimal, put_hex_byte, put_hex_or_dash, put_signed};
+use std::io::{self, Read, Write};
 
 // The longest dump, in bytes.
 const LONGEST_DUMP: usize = 272_384;
@@ -241,11 +242,11 @@ fn put_whole(out: &mut [u8], file: &[u8]) -> usize
     put_dump(out, 0, file)
 }
 
-// Reads a file from one descriptor, until it ends or is too long, and writes its dump to another.
-pub fn dump_input(from: i32, to: i32) -> bool {
+// Reads a file, until it ends or is too long, and writes its dump. What is told of a failed read or write is its error.
+pub fn dump_input<R: Read, W: Write>(from: &mut R, to: &mut W) -> io::Result<()> {
     let mut file = file_room();
     let mut out = text_room();
-    let got = io::read_full(from, &mut file);
+    let got = read_full(from, &mut file)?;
     let end = put_whole(&mut out, &file[..got]);
-    io::write_all(to, &out[..end])
+    to.write_all(&out[..end])
 }

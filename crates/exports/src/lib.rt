@@ -22,8 +22,7 @@ use export_words::{
 
 // Parses a file: four words for each pair go into `pairs`, two for each map into `maps`. It reports the global fields and how many entries
 // are used; a refusal too reports these, and leaves the entries of pairs accepted and maps ended before it.
-#[unsafe(no_mangle)]
-pub extern "C" fn fastpsbt_parse(
+pub fn fastpsbt_parse(
     file: &[u8],
     pairs: &mut [u32],
     maps: &mut [u32],
@@ -42,8 +41,7 @@ pub extern "C" fn fastpsbt_parse(
 
 // What decides the lock time: the greatest height or time and the input that asks for it, the fallback, or the rule that refuses and
 // the input at fault.
-#[unsafe(no_mangle)]
-pub extern "C" fn fastpsbt_lock_decided(
+pub fn fastpsbt_lock_decided(
     file: &[u8],
     pairs: &[u32],
     maps: &[u32],
@@ -64,8 +62,7 @@ pub extern "C" fn fastpsbt_lock_decided(
 
 // Sets scripts for the outputs that have none. `list` holds three numbers for each assignment: the output, and where its script starts
 // in `buffer` and how long it is. `scripts` takes 35 bytes for each output.
-#[unsafe(no_mangle)]
-pub extern "C" fn fastpsbt_set_sp_output_scripts(
+pub fn fastpsbt_set_sp_output_scripts(
     file: &[u8],
     pairs: &[u32],
     maps: &[u32],
@@ -96,8 +93,7 @@ pub extern "C" fn fastpsbt_set_sp_output_scripts(
 
 // Writes the unsigned transaction from the front of `out` on, with the scripts set in `scripts` where `state` says that they are. It
 // answers the length and the new state; a refusal writes nothing.
-#[unsafe(no_mangle)]
-pub extern "C" fn fastpsbt_unsigned_tx(
+pub fn fastpsbt_unsigned_tx(
     file: &[u8],
     pairs: &[u32],
     maps: &[u32],
@@ -126,8 +122,7 @@ pub extern "C" fn fastpsbt_unsigned_tx(
 }
 
 // Where the value of a key stands, by the key's type and data.
-#[unsafe(no_mangle)]
-pub extern "C" fn fastpsbt_map_get(
+pub fn fastpsbt_map_get(
     file: &[u8],
     pairs: &[u32],
     maps: &[u32],
@@ -151,8 +146,7 @@ pub extern "C" fn fastpsbt_map_get(
 }
 
 // The pairs of a type: the first one's number in the map, or where it would stand, and how many they are.
-#[unsafe(no_mangle)]
-pub extern "C" fn fastpsbt_map_list(
+pub fn fastpsbt_map_list(
     file: &[u8],
     pairs: &[u32],
     maps: &[u32],
@@ -174,8 +168,7 @@ pub extern "C" fn fastpsbt_map_list(
 }
 
 // Pair number `i` of a map: where its key and its value stand.
-#[unsafe(no_mangle)]
-pub extern "C" fn fastpsbt_map_nth(
+pub fn fastpsbt_map_nth(
     file: &[u8],
     pairs: &[u32],
     maps: &[u32],
@@ -197,8 +190,7 @@ pub extern "C" fn fastpsbt_map_nth(
 }
 
 // The ECDH share of a scan key.
-#[unsafe(no_mangle)]
-pub extern "C" fn fastpsbt_global_get_sp_ecdh_share(
+pub fn fastpsbt_global_get_sp_ecdh_share(
     file: &[u8],
     pairs: &[u32],
     maps: &[u32],
@@ -220,8 +212,7 @@ pub extern "C" fn fastpsbt_global_get_sp_ecdh_share(
 }
 
 // The DLEQ proof of a scan key.
-#[unsafe(no_mangle)]
-pub extern "C" fn fastpsbt_global_get_sp_dleq_proof(
+pub fn fastpsbt_global_get_sp_dleq_proof(
     file: &[u8],
     pairs: &[u32],
     maps: &[u32],
@@ -243,8 +234,7 @@ pub extern "C" fn fastpsbt_global_get_sp_dleq_proof(
 }
 
 // All shares.
-#[unsafe(no_mangle)]
-pub extern "C" fn fastpsbt_global_sp_ecdh_shares(
+pub fn fastpsbt_global_sp_ecdh_shares(
     file: &[u8],
     pairs: &[u32],
     maps: &[u32],
@@ -264,8 +254,7 @@ pub extern "C" fn fastpsbt_global_sp_ecdh_shares(
 }
 
 // All proofs.
-#[unsafe(no_mangle)]
-pub extern "C" fn fastpsbt_global_sp_dleq_proofs(
+pub fn fastpsbt_global_sp_dleq_proofs(
     file: &[u8],
     pairs: &[u32],
     maps: &[u32],
@@ -285,8 +274,7 @@ pub extern "C" fn fastpsbt_global_sp_dleq_proofs(
 }
 
 // The whole previous transaction, as its bytes.
-#[unsafe(no_mangle)]
-pub extern "C" fn fastpsbt_input_non_witness_utxo(
+pub fn fastpsbt_input_non_witness_utxo(
     file: &[u8],
     pairs: &[u32],
     maps: &[u32],
@@ -307,8 +295,7 @@ pub extern "C" fn fastpsbt_input_non_witness_utxo(
 }
 
 // The output that is spent, as its bytes; `get_witness_utxo` reads it.
-#[unsafe(no_mangle)]
-pub extern "C" fn fastpsbt_input_witness_utxo(
+pub fn fastpsbt_input_witness_utxo(
     file: &[u8],
     pairs: &[u32],
     maps: &[u32],
@@ -329,8 +316,7 @@ pub extern "C" fn fastpsbt_input_witness_utxo(
 }
 
 // The signature hash type.
-#[unsafe(no_mangle)]
-pub extern "C" fn fastpsbt_input_sighash_type(
+pub fn fastpsbt_input_sighash_type(
     file: &[u8],
     pairs: &[u32],
     maps: &[u32],
@@ -351,8 +337,7 @@ pub extern "C" fn fastpsbt_input_sighash_type(
 }
 
 // The redeem script.
-#[unsafe(no_mangle)]
-pub extern "C" fn fastpsbt_input_redeem_script(
+pub fn fastpsbt_input_redeem_script(
     file: &[u8],
     pairs: &[u32],
     maps: &[u32],
@@ -373,8 +358,7 @@ pub extern "C" fn fastpsbt_input_redeem_script(
 }
 
 // The witness script.
-#[unsafe(no_mangle)]
-pub extern "C" fn fastpsbt_input_witness_script(
+pub fn fastpsbt_input_witness_script(
     file: &[u8],
     pairs: &[u32],
     maps: &[u32],
@@ -395,8 +379,7 @@ pub extern "C" fn fastpsbt_input_witness_script(
 }
 
 // The final script.
-#[unsafe(no_mangle)]
-pub extern "C" fn fastpsbt_input_final_scriptsig(
+pub fn fastpsbt_input_final_scriptsig(
     file: &[u8],
     pairs: &[u32],
     maps: &[u32],
@@ -417,8 +400,7 @@ pub extern "C" fn fastpsbt_input_final_scriptsig(
 }
 
 // The final witness.
-#[unsafe(no_mangle)]
-pub extern "C" fn fastpsbt_input_final_scriptwitness(
+pub fn fastpsbt_input_final_scriptwitness(
     file: &[u8],
     pairs: &[u32],
     maps: &[u32],
@@ -439,8 +421,7 @@ pub extern "C" fn fastpsbt_input_final_scriptwitness(
 }
 
 // The txid of the previous transaction, 32 bytes.
-#[unsafe(no_mangle)]
-pub extern "C" fn fastpsbt_input_previous_txid(
+pub fn fastpsbt_input_previous_txid(
     file: &[u8],
     pairs: &[u32],
     maps: &[u32],
@@ -461,8 +442,7 @@ pub extern "C" fn fastpsbt_input_previous_txid(
 }
 
 // Which of its outputs is spent.
-#[unsafe(no_mangle)]
-pub extern "C" fn fastpsbt_input_output_index(
+pub fn fastpsbt_input_output_index(
     file: &[u8],
     pairs: &[u32],
     maps: &[u32],
@@ -483,8 +463,7 @@ pub extern "C" fn fastpsbt_input_output_index(
 }
 
 // The sequence number.
-#[unsafe(no_mangle)]
-pub extern "C" fn fastpsbt_input_sequence(
+pub fn fastpsbt_input_sequence(
     file: &[u8],
     pairs: &[u32],
     maps: &[u32],
@@ -505,8 +484,7 @@ pub extern "C" fn fastpsbt_input_sequence(
 }
 
 // The lock time that the input asks for, as a time.
-#[unsafe(no_mangle)]
-pub extern "C" fn fastpsbt_input_required_time_locktime(
+pub fn fastpsbt_input_required_time_locktime(
     file: &[u8],
     pairs: &[u32],
     maps: &[u32],
@@ -527,8 +505,7 @@ pub extern "C" fn fastpsbt_input_required_time_locktime(
 }
 
 // The lock time that the input asks for, as a block height.
-#[unsafe(no_mangle)]
-pub extern "C" fn fastpsbt_input_required_height_locktime(
+pub fn fastpsbt_input_required_height_locktime(
     file: &[u8],
     pairs: &[u32],
     maps: &[u32],
@@ -549,8 +526,7 @@ pub extern "C" fn fastpsbt_input_required_height_locktime(
 }
 
 // The silent payment tweak, 32 bytes.
-#[unsafe(no_mangle)]
-pub extern "C" fn fastpsbt_input_sp_tweak(
+pub fn fastpsbt_input_sp_tweak(
     file: &[u8],
     pairs: &[u32],
     maps: &[u32],
@@ -571,8 +547,7 @@ pub extern "C" fn fastpsbt_input_sp_tweak(
 }
 
 // The pairs of a type.
-#[unsafe(no_mangle)]
-pub extern "C" fn fastpsbt_input_iter_keys(
+pub fn fastpsbt_input_iter_keys(
     file: &[u8],
     pairs: &[u32],
     maps: &[u32],
@@ -594,8 +569,7 @@ pub extern "C" fn fastpsbt_input_iter_keys(
 }
 
 // The pairs of derivations.
-#[unsafe(no_mangle)]
-pub extern "C" fn fastpsbt_input_bip32_derivations(
+pub fn fastpsbt_input_bip32_derivations(
     file: &[u8],
     pairs: &[u32],
     maps: &[u32],
@@ -616,8 +590,7 @@ pub extern "C" fn fastpsbt_input_bip32_derivations(
 }
 
 // The ECDH share of a scan key.
-#[unsafe(no_mangle)]
-pub extern "C" fn fastpsbt_input_get_sp_ecdh_share(
+pub fn fastpsbt_input_get_sp_ecdh_share(
     file: &[u8],
     pairs: &[u32],
     maps: &[u32],
@@ -640,8 +613,7 @@ pub extern "C" fn fastpsbt_input_get_sp_ecdh_share(
 }
 
 // The DLEQ proof of a scan key.
-#[unsafe(no_mangle)]
-pub extern "C" fn fastpsbt_input_get_sp_dleq_proof(
+pub fn fastpsbt_input_get_sp_dleq_proof(
     file: &[u8],
     pairs: &[u32],
     maps: &[u32],
@@ -664,8 +636,7 @@ pub extern "C" fn fastpsbt_input_get_sp_dleq_proof(
 }
 
 // All shares.
-#[unsafe(no_mangle)]
-pub extern "C" fn fastpsbt_input_sp_ecdh_shares(
+pub fn fastpsbt_input_sp_ecdh_shares(
     file: &[u8],
     pairs: &[u32],
     maps: &[u32],
@@ -686,8 +657,7 @@ pub extern "C" fn fastpsbt_input_sp_ecdh_shares(
 }
 
 // All proofs.
-#[unsafe(no_mangle)]
-pub extern "C" fn fastpsbt_input_sp_dleq_proofs(
+pub fn fastpsbt_input_sp_dleq_proofs(
     file: &[u8],
     pairs: &[u32],
     maps: &[u32],
@@ -708,8 +678,7 @@ pub extern "C" fn fastpsbt_input_sp_dleq_proofs(
 }
 
 // The derivations of silent payment spend keys.
-#[unsafe(no_mangle)]
-pub extern "C" fn fastpsbt_input_sp_spend_bip32_derivations(
+pub fn fastpsbt_input_sp_spend_bip32_derivations(
     file: &[u8],
     pairs: &[u32],
     maps: &[u32],
@@ -730,8 +699,7 @@ pub extern "C" fn fastpsbt_input_sp_spend_bip32_derivations(
 }
 
 // The MuSig2 public nonce of a participant under an aggregate key; `leaf` is a leaf hash, or empty.
-#[unsafe(no_mangle)]
-pub extern "C" fn fastpsbt_input_get_musig2_pub_nonce(
+pub fn fastpsbt_input_get_musig2_pub_nonce(
     file: &[u8],
     pairs: &[u32],
     maps: &[u32],
@@ -765,8 +733,7 @@ pub extern "C" fn fastpsbt_input_get_musig2_pub_nonce(
 }
 
 // The partial signature, likewise.
-#[unsafe(no_mangle)]
-pub extern "C" fn fastpsbt_input_get_musig2_partial_sig(
+pub fn fastpsbt_input_get_musig2_partial_sig(
     file: &[u8],
     pairs: &[u32],
     maps: &[u32],
@@ -800,8 +767,7 @@ pub extern "C" fn fastpsbt_input_get_musig2_partial_sig(
 }
 
 // The participants of an aggregate key, a list of 33-byte keys.
-#[unsafe(no_mangle)]
-pub extern "C" fn fastpsbt_input_get_musig2_participant_pubkeys(
+pub fn fastpsbt_input_get_musig2_participant_pubkeys(
     file: &[u8],
     pairs: &[u32],
     maps: &[u32],
@@ -827,8 +793,7 @@ pub extern "C" fn fastpsbt_input_get_musig2_participant_pubkeys(
 }
 
 // How many they are.
-#[unsafe(no_mangle)]
-pub extern "C" fn fastpsbt_input_get_musig2_participant_count(
+pub fn fastpsbt_input_get_musig2_participant_count(
     file: &[u8],
     pairs: &[u32],
     maps: &[u32],
@@ -854,8 +819,7 @@ pub extern "C" fn fastpsbt_input_get_musig2_participant_count(
 }
 
 // Participant number `n`.
-#[unsafe(no_mangle)]
-pub extern "C" fn fastpsbt_input_get_musig2_participant(
+pub fn fastpsbt_input_get_musig2_participant(
     file: &[u8],
     pairs: &[u32],
     maps: &[u32],
@@ -880,8 +844,7 @@ pub extern "C" fn fastpsbt_input_get_musig2_participant(
 }
 
 // The output that is spent: its amount, and where its script stands.
-#[unsafe(no_mangle)]
-pub extern "C" fn fastpsbt_input_get_witness_utxo(
+pub fn fastpsbt_input_get_witness_utxo(
     file: &[u8],
     pairs: &[u32],
     maps: &[u32],
@@ -902,8 +865,7 @@ pub extern "C" fn fastpsbt_input_get_witness_utxo(
 }
 
 // The redeem script.
-#[unsafe(no_mangle)]
-pub extern "C" fn fastpsbt_output_redeem_script(
+pub fn fastpsbt_output_redeem_script(
     file: &[u8],
     pairs: &[u32],
     maps: &[u32],
@@ -924,8 +886,7 @@ pub extern "C" fn fastpsbt_output_redeem_script(
 }
 
 // The witness script.
-#[unsafe(no_mangle)]
-pub extern "C" fn fastpsbt_output_witness_script(
+pub fn fastpsbt_output_witness_script(
     file: &[u8],
     pairs: &[u32],
     maps: &[u32],
@@ -946,8 +907,7 @@ pub extern "C" fn fastpsbt_output_witness_script(
 }
 
 // The amount.
-#[unsafe(no_mangle)]
-pub extern "C" fn fastpsbt_output_amount(
+pub fn fastpsbt_output_amount(
     file: &[u8],
     pairs: &[u32],
     maps: &[u32],
@@ -968,8 +928,7 @@ pub extern "C" fn fastpsbt_output_amount(
 }
 
 // The script.
-#[unsafe(no_mangle)]
-pub extern "C" fn fastpsbt_output_script(
+pub fn fastpsbt_output_script(
     file: &[u8],
     pairs: &[u32],
     maps: &[u32],
@@ -990,8 +949,7 @@ pub extern "C" fn fastpsbt_output_script(
 }
 
 // The silent payment code, 66 bytes.
-#[unsafe(no_mangle)]
-pub extern "C" fn fastpsbt_output_sp_v0_info(
+pub fn fastpsbt_output_sp_v0_info(
     file: &[u8],
     pairs: &[u32],
     maps: &[u32],
@@ -1012,8 +970,7 @@ pub extern "C" fn fastpsbt_output_sp_v0_info(
 }
 
 // Its label.
-#[unsafe(no_mangle)]
-pub extern "C" fn fastpsbt_output_sp_v0_label(
+pub fn fastpsbt_output_sp_v0_label(
     file: &[u8],
     pairs: &[u32],
     maps: &[u32],
@@ -1034,8 +991,7 @@ pub extern "C" fn fastpsbt_output_sp_v0_label(
 }
 
 // The pairs of a type.
-#[unsafe(no_mangle)]
-pub extern "C" fn fastpsbt_output_iter_keys(
+pub fn fastpsbt_output_iter_keys(
     file: &[u8],
     pairs: &[u32],
     maps: &[u32],
@@ -1057,8 +1013,7 @@ pub extern "C" fn fastpsbt_output_iter_keys(
 }
 
 // The pairs of derivations.
-#[unsafe(no_mangle)]
-pub extern "C" fn fastpsbt_output_bip32_derivations(
+pub fn fastpsbt_output_bip32_derivations(
     file: &[u8],
     pairs: &[u32],
     maps: &[u32],
@@ -1079,8 +1034,7 @@ pub extern "C" fn fastpsbt_output_bip32_derivations(
 }
 
 // The participants of an aggregate key, a list of 33-byte keys.
-#[unsafe(no_mangle)]
-pub extern "C" fn fastpsbt_output_get_musig2_participant_pubkeys(
+pub fn fastpsbt_output_get_musig2_participant_pubkeys(
     file: &[u8],
     pairs: &[u32],
     maps: &[u32],
@@ -1103,8 +1057,7 @@ pub extern "C" fn fastpsbt_output_get_musig2_participant_pubkeys(
 }
 
 // How many they are.
-#[unsafe(no_mangle)]
-pub extern "C" fn fastpsbt_output_get_musig2_participant_count(
+pub fn fastpsbt_output_get_musig2_participant_count(
     file: &[u8],
     pairs: &[u32],
     maps: &[u32],
@@ -1127,8 +1080,7 @@ pub extern "C" fn fastpsbt_output_get_musig2_participant_count(
 }
 
 // Participant number `n`.
-#[unsafe(no_mangle)]
-pub extern "C" fn fastpsbt_output_get_musig2_participant(
+pub fn fastpsbt_output_get_musig2_participant(
     file: &[u8],
     pairs: &[u32],
     maps: &[u32],
@@ -1152,8 +1104,7 @@ pub extern "C" fn fastpsbt_output_get_musig2_participant(
 }
 
 // Where the script of an output stands: in the file, or in the script table once scripts are set.
-#[unsafe(no_mangle)]
-pub extern "C" fn fastpsbt_output_output_script(
+pub fn fastpsbt_output_output_script(
     file: &[u8],
     pairs: &[u32],
     maps: &[u32],

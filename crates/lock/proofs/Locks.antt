@@ -99,7 +99,7 @@ module _ (fallback : Maybe) (a : Asks) where
   unfolding decide_asks decide_by
   a_fault i p = sym (ap (decide_by fallback a) p)
 
-pub ruleset rules = (no_fault, a_fault)
+pub ruleset faults = (no_fault, a_fault)
 
 -- where all maps are fit
 pub lock_fit : (f P M : List ℕ) (s : Psbt) → AllFit f P M s → (a : Asks) (r : Lock) → a ≡ walk no_asks 0 (ins_of f P M s)

@@ -1,10 +1,12 @@
-// What the programs that print a file's text have room for, and the memory that they lend.
+// What the programs that print a file's text have room for, the memory that they lend, and reading into it.
 #![tactic(auto)]
 
-ghost use Rattle.std.specs.Prelude.{◌≡◌, ◌+◌, ◌*◌, length};
+ghost use Rattle.std.specs.Prelude.{◌≡◌, ◌≤◌, ◌+◌, ◌*◌, length, IfOk};
 ghost use Rattle.format.specs.Entries.{pair_words, map_words};
 ghost use Rattle.rooms.specs.Limits.{longest, most_pairs, most_maps};
 ghost use Rattle.rooms.specs.Rooms.{pair_room, map_room, tx_room};
+
+use std::io::{self, ErrorKind, Read};
 
 // The longest file that is read, in bytes.
 pub const LONGEST: usize = 65_536;
@@ -50,4 +52,23 @@ pub fn file_room() -> [u8; LONGEST + 1]
     ensures { longest + 1 ≡ length result }
 {
     [0; LONGEST + 1]
+}
+
+// Reads until `room` is full or the input ends, and answers how many bytes were read. A failed read ends it.
+pub fn read_full<R: Read>(from: &mut R, room: &mut [u8]) -> io::Result<usize>
+    ensures { IfOk result (λ n. n ≤ length room.new) }
+{
+    let mut got = 0;
+    for _ in 0..u64::MAX {
+        match from.read(&mut room[got..]) {
+            Ok(0) => break,
+            Ok(n) => got += n,
+            Err(e) => {
+                if e.kind() != ErrorKind::Interrupted {
+                    return Err(e);
+                }
+            }
+        }
+    }
+    Ok(got)
 }

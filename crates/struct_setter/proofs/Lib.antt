@@ -1,5 +1,3 @@
-pub mod Steps
-pub mod Again
 pub mod Asks
 pub mod Numbers
 pub mod Tallies

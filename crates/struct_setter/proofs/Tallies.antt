@@ -10,7 +10,6 @@ use lib.Seq.{drop-cons}
 use Rattle.format.specs.Tests.{pick, keep_if, only, every}
 use Rattle.format.specs.Scripts.{allowed, named}
 use Rattle.format.specs.declared.Assignment.{Assignment}
-use Rattle.setter.specs.Records.{no_record}
 use Rattle.struct_setter.specs.Names.{names_of, named_by, names_after}
 use Rattle.struct_setter.specs.Turns.{allowed_too, noted, tallied}
 use Rattle.struct_setter.specs.declared.Names.{Names}
@@ -20,11 +19,11 @@ use Rattle.struct_setter.specs.declared.Task.TheVariants.{Check, Serve, Write}
 
 -- a walk over the list stands at number k, with the answer t so far
 module _ (buffer : List ℕ) (n : ℕ) (t : Task) (xs : List Assignment) (k : ℕ) where
-  pub tally_more : k < length xs → tallied buffer n (noted buffer n t (get_or xs k no_record)) (drop (k + 1) xs) ≡ tallied buffer n t (drop k xs)
+  pub tally_more : (d : Assignment) → k < length xs → tallied buffer n (noted buffer n t (get_or xs k d)) (drop (k + 1) xs) ≡ tallied buffer n t (drop k xs)
   unfolding tallied
-  tally_more h =
-      ap (λ (j : ℕ). tallied buffer n (noted buffer n t (get_or xs k no_record)) (drop j xs)) (add-one k)
-      ∙ sym (ap (tallied buffer n t) (drop-cons xs k no_record h))
+  tally_more d h =
+      ap (λ (j : ℕ). tallied buffer n (noted buffer n t (get_or xs k d)) (drop j xs)) (add-one k)
+      ∙ sym (ap (tallied buffer n t) (drop-cons xs k d h))
 
   pub tally_done : length xs ≤ k → t ≡ tallied buffer n t (drop k xs)
   unfolding tallied

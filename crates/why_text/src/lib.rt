@@ -10,9 +10,10 @@ use format::{Parsed, Psbt, PsbtError, State};
 use heed_lines::{heed_of, put_heed};
 use lock_lines::{put_head, put_input, put_verdict};
 use reasons::put_refused;
-use rooms::{LONGEST, file_room, map_room, pair_room, tx_room};
+use rooms::{LONGEST, file_room, map_room, pair_room, read_full, tx_room};
 use stop_lines::put_stop;
 use typed::input::{required_height_locktime, required_time_locktime};
+use std::io::{self, Read, Write};
 
 // What all inputs ask for, a line each.
 fn put_inputs(
@@ -138,11 +139,11 @@ fn put_whole(out: &mut [u8], file: &[u8]) -> usize
     put_why(out, 0, file)
 }
 
-// Reads a file from one descriptor, until it ends or is too long, and writes its text to another.
-pub fn why_input(from: i32, to: i32) -> bool {
+// Reads a file, until it ends or is too long, and writes its text. What is told of a failed read or write is its error.
+pub fn why_input<R: Read, W: Write>(from: &mut R, to: &mut W) -> io::Result<()> {
     let mut file = file_room();
     let mut out = text_room();
-    let got = io::read_full(from, &mut file);
+    let got = read_full(from, &mut file)?;
     let end = put_whole(&mut out, &file[..got]);
-    io::write_all(to, &out[..end])
+    to.write_all(&out[..end])
 }

@@ -7,10 +7,10 @@ use Rattle.dump_text.proofs.Walks.{Mapping, all_maps}
 use Rattle.dump_text.proofs.put_maps.Statement.{statement}
 use Rattle.dump_text.proofs.put_maps.Tie as tie
 
-abbrev invariant-loop : tie.invariant-loop
+abbrev invariant-loop : tie.invariant-loop-psbt
 invariant-loop out₀ at file pairs maps psbt to₀ m₀ out to m = Mapping at out₀ file pairs maps psbt to out m
 
-abbrev decreases-loop : tie.decreases-loop
+abbrev decreases-loop : tie.decreases-loop-psbt
 decreases-loop out₀ at file pairs maps psbt to₀ m₀ out to m = maps_reported psbt - m
 
 -- needs: needs, all-maps

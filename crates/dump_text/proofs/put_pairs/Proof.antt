@@ -6,10 +6,10 @@ use Rattle.dump_text.proofs.Walks.{Listing, lists}
 use Rattle.dump_text.proofs.put_pairs.Statement.{statement}
 use Rattle.dump_text.proofs.put_pairs.Tie as tie
 
-abbrev invariant-loop : tie.invariant-loop
+abbrev invariant-loop : tie.invariant-loop-left
 invariant-loop out₀ at file pairs to₀ i₀ left₀ out to i left = Listing at out₀ file pairs i₀ left₀ to out i left
 
-abbrev decreases-loop : tie.decreases-loop
+abbrev decreases-loop : tie.decreases-loop-left
 decreases-loop out₀ at file pairs to₀ i₀ left₀ out to i left = left
 
 -- needs: needs, lists | entriesOf

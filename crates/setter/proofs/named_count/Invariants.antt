@@ -1,4 +1,5 @@
 -- `setter::named_count` meets its contract. The loop's invariant: those counted and those from `k` on are all.
+use Prim.Native.Nat.{◌-◌}
 use Rattle.setter.proofs.Records.{Counting}
 use Rattle.setter.proofs.named_count.Given as goal
 

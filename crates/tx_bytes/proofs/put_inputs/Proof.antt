@@ -6,10 +6,10 @@ use Rattle.tx_bytes.proofs.Inputs.{Putting, puttings}
 use Rattle.tx_bytes.proofs.put_inputs.Statement.{statement}
 use Rattle.tx_bytes.proofs.put_inputs.Tie as tie
 
-abbrev invariant-loop : tie.invariant-loop
+abbrev invariant-loop : tie.invariant-loop-i
 invariant-loop file pairs maps psbt out₀ at i₀ to₀ out i to = Putting file pairs maps psbt out₀ at out i to
 
-abbrev decreases-loop : tie.decreases-loop
+abbrev decreases-loop : tie.decreases-loop-i
 decreases-loop file pairs maps psbt out₀ at i₀ to₀ out i to = psbt.inputs - i
 
 -- needs: needs, puttings, input-maps

@@ -6,10 +6,10 @@ use Rattle.tx_bytes.proofs.Outputs.{Putting, puttings}
 use Rattle.tx_bytes.proofs.put_outputs.Statement.{statement}
 use Rattle.tx_bytes.proofs.put_outputs.Tie as tie
 
-abbrev invariant-loop : tie.invariant-loop
+abbrev invariant-loop : tie.invariant-loop-i
 invariant-loop file pairs maps psbt state scripts out₀ at i₀ to₀ out i to = Putting file pairs maps psbt state scripts out₀ at out i to
 
-abbrev decreases-loop : tie.decreases-loop
+abbrev decreases-loop : tie.decreases-loop-i
 decreases-loop file pairs maps psbt state scripts out₀ at i₀ to₀ out i to = psbt.outputs - i
 
 -- needs: needs, puttings, output-maps

@@ -6,10 +6,10 @@ use Rattle.tx_size.proofs.Outputs.{Measuring, measures}
 use Rattle.tx_size.proofs.outputs_len.Statement.{statement}
 use Rattle.tx_size.proofs.outputs_len.Tie as tie
 
-abbrev invariant-loop : tie.invariant-loop
+abbrev invariant-loop : tie.invariant-loop-i
 invariant-loop file pairs maps psbt state scripts first i₀ total₀ i total = Measuring file pairs maps psbt state scripts first i total
 
-abbrev decreases-loop : tie.decreases-loop
+abbrev decreases-loop : tie.decreases-loop-i
 decreases-loop file pairs maps psbt state scripts first i₀ total₀ i total = psbt.outputs - i
 
 -- needs: needs, measures, output-maps

@@ -6,10 +6,10 @@ use Rattle.unsigned_tx.proofs.Judges.{Judging, judges}
 use Rattle.unsigned_tx.proofs.scripts_fit.Statement.{statement}
 use Rattle.unsigned_tx.proofs.scripts_fit.Tie as tie
 
-abbrev invariant-loop : tie.invariant-loop
+abbrev invariant-loop : tie.invariant-loop-i
 invariant-loop file pairs maps psbt scripts i₀ i = Judging file pairs maps psbt scripts i
 
-abbrev decreases-loop : tie.decreases-loop
+abbrev decreases-loop : tie.decreases-loop-i
 decreases-loop file pairs maps psbt scripts i₀ i = psbt.outputs - i
 
 -- needs: needs, judges, output-maps

@@ -7,10 +7,10 @@ use Rattle.unsigned_tx.proofs.Surveys.{Surveying, surveys}
 use Rattle.unsigned_tx.proofs.survey_inputs.Statement.{statement}
 use Rattle.unsigned_tx.proofs.survey_inputs.Tie as tie
 
-abbrev invariant-loop : tie.invariant-loop
+abbrev invariant-loop : tie.invariant-loop-i
 invariant-loop file pairs maps psbt asks₀ ok₀ i₀ asks ok i = Surveying file pairs maps psbt asks ok i
 
-abbrev decreases-loop : tie.decreases-loop
+abbrev decreases-loop : tie.decreases-loop-i
 decreases-loop file pairs maps psbt asks₀ ok₀ i₀ asks ok i = psbt.inputs - i
 
 -- needs: needs, surveys, input-maps

@@ -6,10 +6,10 @@ use Rattle.why_text.proofs.Wholes.{Asking, asking}
 use Rattle.why_text.proofs.put_inputs.Statement.{statement}
 use Rattle.why_text.proofs.put_inputs.Tie as tie
 
-abbrev invariant-loop : tie.invariant-loop
+abbrev invariant-loop : tie.invariant-loop-i
 invariant-loop out₀ at file pairs maps psbt to₀ i₀ out to i = Asking at out₀ file pairs maps psbt to out i
 
-abbrev decreases-loop : tie.decreases-loop
+abbrev decreases-loop : tie.decreases-loop-i
 decreases-loop out₀ at file pairs maps psbt to₀ i₀ out to i = psbt.inputs - i
 
 -- needs: needs, asking
