@@ -435,7 +435,9 @@ fn run<R: Read, W: Write>(
     let mut stand = begin();
     let mut turns = u64::MAX;
     while 0 < turns {
-        stand = turn(stand, input, output, texts, pairs, maps, scripts, out, lines)?;
+        stand = turn(
+            stand, input, output, texts, pairs, maps, scripts, out, lines,
+        )?;
         if stand.how != 0 {
             return finish(output, lines, stand.at, stand.how);
         }

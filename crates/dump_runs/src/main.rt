@@ -1,9 +1,9 @@
 // Writes the dumps of the stored files that its arguments name, one after the other, to standard output.
 #![tactic(auto)]
 
+use dump_text::dump_input;
 use std::fs::File;
 use std::{env, io};
-use dump_text::dump_input;
 
 // The dumps of all files that are named, in their order.
 fn main(rt: HostRuntime) -> io::Result<()> {

@@ -16,8 +16,8 @@ use fitness::{Fit, fit_map, is_reported};
 use format::{Looked, MapEntry, Nth, PairEntry, Parsed, Psbt, PsbtError, State, UnsignedTx};
 use lookup::{key_part, part_of, value_part};
 use rooms::{LONGEST, file_room, map_room, pair_room, read_full, tx_room};
-use text::{put, put_decimal, put_hex_byte, put_hex_or_dash, put_signed};
 use std::io::{self, Read, Write};
+use text::{put, put_decimal, put_hex_byte, put_hex_or_dash, put_signed};
 
 // The longest dump, in bytes.
 const LONGEST_DUMP: usize = 272_384;

@@ -22,12 +22,7 @@ use export_words::{
 
 // Parses a file: four words for each pair go into `pairs`, two for each map into `maps`. It reports the global fields and how many entries
 // are used; a refusal too reports these, and leaves the entries of pairs accepted and maps ended before it.
-pub fn fastpsbt_parse(
-    file: &[u8],
-    pairs: &mut [u32],
-    maps: &mut [u32],
-    answer: &mut [u64],
-) -> u64
+pub fn fastpsbt_parse(file: &[u8], pairs: &mut [u32], maps: &mut [u32], answer: &mut [u64]) -> u64
     ensures { leaves_both (exported result answer.new) pairs.new maps.new
         ≡ parse_export answer.old pairs.old
         maps.old (told_parse (parsed file.now pairs.old maps.old)) }

@@ -68,7 +68,9 @@ pub extern "C" fn fastpsbt_set_sp_output_scripts(
         (λ t s. told_set_out (set_scripts (view file.now pairs.now maps.now s) s
         (flat list.now) buffer.now t scripts.old)) }
 {
-    exports::fastpsbt_set_sp_output_scripts(file, pairs, maps, report, list, buffer, set, written, scripts, answer)
+    exports::fastpsbt_set_sp_output_scripts(
+        file, pairs, maps, report, list, buffer, set, written, scripts, answer,
+    )
 }
 
 // Writes the unsigned transaction from the front of `out` on, with the scripts set in `scripts` where `state` says that they are. It
@@ -90,7 +92,9 @@ pub extern "C" fn fastpsbt_unsigned_tx(
         (λ t s. told_tx_out (unsigned_tx_def (view file.now pairs.now maps.now s) s t
         scripts.now out.old)) }
 {
-    exports::fastpsbt_unsigned_tx(file, pairs, maps, report, set, written, scripts, out, answer)
+    exports::fastpsbt_unsigned_tx(
+        file, pairs, maps, report, set, written, scripts, out, answer,
+    )
 }
 
 // Where the value of a key stands, by the key's type and data.
@@ -580,7 +584,17 @@ pub extern "C" fn fastpsbt_input_get_musig2_pub_nonce(
         (λ s. told_looked (pub_nonce file.now participant.now
         aggregate.now leaf.now (held_input file.now pairs.now maps.now s i))) }
 {
-    exports::fastpsbt_input_get_musig2_pub_nonce(file, pairs, maps, report, i, participant, aggregate, leaf, answer)
+    exports::fastpsbt_input_get_musig2_pub_nonce(
+        file,
+        pairs,
+        maps,
+        report,
+        i,
+        participant,
+        aggregate,
+        leaf,
+        answer,
+    )
 }
 
 // The partial signature, likewise.
@@ -601,7 +615,17 @@ pub extern "C" fn fastpsbt_input_get_musig2_partial_sig(
         (λ s. told_looked (partial_sig file.now participant.now
         aggregate.now leaf.now (held_input file.now pairs.now maps.now s i))) }
 {
-    exports::fastpsbt_input_get_musig2_partial_sig(file, pairs, maps, report, i, participant, aggregate, leaf, answer)
+    exports::fastpsbt_input_get_musig2_partial_sig(
+        file,
+        pairs,
+        maps,
+        report,
+        i,
+        participant,
+        aggregate,
+        leaf,
+        answer,
+    )
 }
 
 // The participants of an aggregate key, a list of 33-byte keys.
@@ -621,7 +645,9 @@ pub extern "C" fn fastpsbt_input_get_musig2_participant_pubkeys(
         (λ s. told_looked (input_participants file.now
         aggregate.now leaf.now (held_input file.now pairs.now maps.now s i))) }
 {
-    exports::fastpsbt_input_get_musig2_participant_pubkeys(file, pairs, maps, report, i, aggregate, leaf, answer)
+    exports::fastpsbt_input_get_musig2_participant_pubkeys(
+        file, pairs, maps, report, i, aggregate, leaf, answer,
+    )
 }
 
 // How many they are.
@@ -641,7 +667,9 @@ pub extern "C" fn fastpsbt_input_get_musig2_participant_count(
         (λ s. told_numbered (participant_count (input_participants file.now
         aggregate.now leaf.now (held_input file.now pairs.now maps.now s i)))) }
 {
-    exports::fastpsbt_input_get_musig2_participant_count(file, pairs, maps, report, i, aggregate, leaf, answer)
+    exports::fastpsbt_input_get_musig2_participant_count(
+        file, pairs, maps, report, i, aggregate, leaf, answer,
+    )
 }
 
 // Participant number `n`.
@@ -662,7 +690,9 @@ pub extern "C" fn fastpsbt_input_get_musig2_participant(
         (λ s. told_looked (participant n (input_participants file.now
         aggregate.now leaf.now (held_input file.now pairs.now maps.now s i)))) }
 {
-    exports::fastpsbt_input_get_musig2_participant(file, pairs, maps, report, i, aggregate, leaf, n, answer)
+    exports::fastpsbt_input_get_musig2_participant(
+        file, pairs, maps, report, i, aggregate, leaf, n, answer,
+    )
 }
 
 // The output that is spent: its amount, and where its script stands.
@@ -835,7 +865,9 @@ pub extern "C" fn fastpsbt_output_get_musig2_participant_pubkeys(
         (λ s. told_looked (output_participants file.now
         aggregate.now (held_output file.now pairs.now maps.now s i))) }
 {
-    exports::fastpsbt_output_get_musig2_participant_pubkeys(file, pairs, maps, report, i, aggregate, answer)
+    exports::fastpsbt_output_get_musig2_participant_pubkeys(
+        file, pairs, maps, report, i, aggregate, answer,
+    )
 }
 
 // How many they are.
@@ -854,7 +886,9 @@ pub extern "C" fn fastpsbt_output_get_musig2_participant_count(
         (λ s. told_numbered (participant_count (output_participants file.now
         aggregate.now (held_output file.now pairs.now maps.now s i)))) }
 {
-    exports::fastpsbt_output_get_musig2_participant_count(file, pairs, maps, report, i, aggregate, answer)
+    exports::fastpsbt_output_get_musig2_participant_count(
+        file, pairs, maps, report, i, aggregate, answer,
+    )
 }
 
 // Participant number `n`.
@@ -874,7 +908,9 @@ pub extern "C" fn fastpsbt_output_get_musig2_participant(
         (λ s. told_looked (participant n (output_participants file.now
         aggregate.now (held_output file.now pairs.now maps.now s i)))) }
 {
-    exports::fastpsbt_output_get_musig2_participant(file, pairs, maps, report, i, aggregate, n, answer)
+    exports::fastpsbt_output_get_musig2_participant(
+        file, pairs, maps, report, i, aggregate, n, answer,
+    )
 }
 
 // Where the script of an output stands: in the file, or in the script table once scripts are set.
@@ -895,5 +931,7 @@ pub extern "C" fn fastpsbt_output_output_script(
         (λ t s. told_script (output_script_def file.now t
         scripts.now i (held_output file.now pairs.now maps.now s i))) }
 {
-    exports::fastpsbt_output_output_script(file, pairs, maps, report, set, written, scripts, i, answer)
+    exports::fastpsbt_output_output_script(
+        file, pairs, maps, report, set, written, scripts, i, answer,
+    )
 }

@@ -11,9 +11,9 @@ use heed_lines::{heed_of, put_heed};
 use lock_lines::{put_head, put_input, put_verdict};
 use reasons::put_refused;
 use rooms::{LONGEST, file_room, map_room, pair_room, read_full, tx_room};
+use std::io::{self, Read, Write};
 use stop_lines::put_stop;
 use typed::input::{required_height_locktime, required_time_locktime};
-use std::io::{self, Read, Write};
 
 // What all inputs ask for, a line each.
 fn put_inputs(

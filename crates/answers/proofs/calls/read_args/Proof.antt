@@ -4,10 +4,10 @@ use borrow.Author.Rules.{rules}
 use Rattle.answers.proofs.calls.read_args.Statement.{statement}
 use Rattle.answers.proofs.calls.read_args.Tie as tie
 
-abbrev invariant-loop : tie.invariant-loop
+abbrev invariant-loop : tie.invariant-loop-i
 invariant-loop body at count args₀ to₀ i₀ args to i = Unit {0}
 
-abbrev decreases-loop : tie.decreases-loop
+abbrev decreases-loop : tie.decreases-loop-i
 decreases-loop body at count args₀ to₀ i₀ args to i = 8 - i
 
 -- needs: needs

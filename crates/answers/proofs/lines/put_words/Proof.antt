@@ -6,10 +6,10 @@ use lib.ListN.{length}
 use Rattle.answers.proofs.lines.put_words.Statement.{statement}
 use Rattle.answers.proofs.lines.put_words.Tie as tie
 
-abbrev invariant-loop : tie.invariant-loop
+abbrev invariant-loop : tie.invariant-loop-i
 invariant-loop out₀ at words to₀ end₀ i₀ out to end i = length out ≡ length out₀
 
-abbrev decreases-loop : tie.decreases-loop
+abbrev decreases-loop : tie.decreases-loop-i
 decreases-loop out₀ at words to₀ end₀ i₀ out to end i = length words - i
 
 -- needs: needs

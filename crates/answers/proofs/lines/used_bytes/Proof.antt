@@ -5,10 +5,10 @@ use lib.ListN.{length}
 use Rattle.answers.proofs.lines.used_bytes.Statement.{statement}
 use Rattle.answers.proofs.lines.used_bytes.Tie as tie
 
-abbrev invariant-loop : tie.invariant-loop
+abbrev invariant-loop : tie.invariant-loop-n
 invariant-loop bytes n₀ n = n ≤ length bytes
 
-abbrev decreases-loop : tie.decreases-loop
+abbrev decreases-loop : tie.decreases-loop-n
 decreases-loop bytes n₀ n = n
 
 -- needs: needs

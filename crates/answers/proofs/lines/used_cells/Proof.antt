@@ -5,10 +5,10 @@ use lib.ListN.{length}
 use Rattle.answers.proofs.lines.used_cells.Statement.{statement}
 use Rattle.answers.proofs.lines.used_cells.Tie as tie
 
-abbrev invariant-loop : tie.invariant-loop
+abbrev invariant-loop : tie.invariant-loop-n
 invariant-loop table n₀ n = n ≤ length table
 
-abbrev decreases-loop : tie.decreases-loop
+abbrev decreases-loop : tie.decreases-loop-n
 decreases-loop table n₀ n = n
 
 -- needs: needs

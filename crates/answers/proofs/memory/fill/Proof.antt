@@ -6,10 +6,10 @@ use borrow.Author.Rules.{rules}
 use Rattle.answers.proofs.memory.fill.Statement.{statement}
 use Rattle.answers.proofs.memory.fill.Tie as tie
 
-abbrev invariant-loop : tie.invariant-loop
+abbrev invariant-loop : tie.invariant-loop-i
 invariant-loop texts₀ from end i₀ texts i = length texts ≡ length texts₀
 
-abbrev decreases-loop : tie.decreases-loop
+abbrev decreases-loop : tie.decreases-loop-i
 decreases-loop texts₀ from end i₀ texts i = length texts₀ - i
 
 -- needs: needs

@@ -6,10 +6,10 @@ use borrow.Author.Rules.{rules}
 use Rattle.answers.proofs.memory.store_cells.Statement.{statement}
 use Rattle.answers.proofs.memory.store_cells.Tie as tie
 
-abbrev invariant-loop : tie.invariant-loop
+abbrev invariant-loop : tie.invariant-loop-i
 invariant-loop table₀ bytes i₀ table i = length table ≡ length table₀
 
-abbrev decreases-loop : tie.decreases-loop
+abbrev decreases-loop : tie.decreases-loop-i
 decreases-loop table₀ bytes i₀ table i = length table₀ - i
 
 -- needs: needs

@@ -6,10 +6,10 @@ use borrow.Author.Rules.{rules}
 use Rattle.answers.proofs.memory.store_numbers.Statement.{statement}
 use Rattle.answers.proofs.memory.store_numbers.Tie as tie
 
-abbrev invariant-loop : tie.invariant-loop
+abbrev invariant-loop : tie.invariant-loop-i
 invariant-loop list₀ bytes i₀ list i = length list ≡ length list₀
 
-abbrev decreases-loop : tie.decreases-loop
+abbrev decreases-loop : tie.decreases-loop-i
 decreases-loop list₀ bytes i₀ list i = length list₀ - i
 
 -- needs: needs
