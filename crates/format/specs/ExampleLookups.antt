@@ -4,7 +4,7 @@ use Rattle.format.specs.Rows.{Row, is, Hold}
 use Rattle.format.specs.Unfolds.{lookups}
 use Rattle.format.specs.Counting.{counting, entry, at, number, nothing, refused}
 use Rattle.format.specs.Tables.{Held, no, holds}
-use Rattle.format.specs.Lookups.{Length, any_length, exactly, key_list, length_fits, of_length_def, asked, look, part, number_at, list, nth, key_part, value_part}
+use Rattle.format.specs.Lookups.{any_length, exactly, key_list, length_fits, of_length_def, asked, look, part, number_at, list, nth, key_part, value_part}
 use Rattle.format.specs.Told.{Told, told, nat, told_looked, told_numbered, told_listing, told_nth}
 use Rattle.format.specs.declared.PsbtError.TheVariants.{BadValue, OutOfRange, BadIndex}
 use Rattle.format.specs.declared.Looked.TheVariants as K
