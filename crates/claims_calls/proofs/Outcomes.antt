@@ -4,19 +4,18 @@
 use Prim.Native.Nat.{ℕ}
 use mathlib.Core.Path.{◌≡◌}
 use mathlib.Core.List.{List}
-use Rattle.claims_calls.proofs.Ones.{one_listing, one_lock, one_looked, one_nth, one_numbered, one_parsed, one_part, one_script, one_set, one_tx}
-use Rattle.claims_calls.proofs.Ones.{one_utxo}
+use Rattle.claims_calls.proofs.Ones.{one_listing, one_lock, one_looked, one_nth, one_numbered, one_parsed, one_part, one_script, one_set, one_tx, one_utxo}
 use Rattle.format.specs.Fields.{amount, final_scriptsig, final_scriptwitness, get_witness_utxo, global_proof, global_share, input_participants, input_proof}
-use Rattle.format.specs.Fields.{input_share, non_witness_utxo, out_redeem_script, out_witness_script, output_index, output_participants, partial_sig, participant}
-use Rattle.format.specs.Fields.{participant_count, previous_txid, pub_nonce, redeem_script, required_height_locktime, required_time_locktime, script, sequence}
-use Rattle.format.specs.Fields.{sighash_type, sp_tweak, sp_v0_info, sp_v0_label, utxo_part, witness_script, witness_utxo_def}
+use Rattle.format.specs.Fields.{input_share, non_witness_utxo, out_redeem_script, out_witness_script, output_index, output_participants, partial_sig}
+use Rattle.format.specs.Fields.{participant, participant_count, previous_txid, pub_nonce, redeem_script, required_height_locktime, required_time_locktime}
+use Rattle.format.specs.Fields.{script, sequence, sighash_type, sp_tweak, sp_v0_info, sp_v0_label, utxo_part, witness_script, witness_utxo_def}
 use Rattle.format.specs.Lookups.{key_part, list, look, nth, part, value_part}
 use Rattle.format.specs.Outcomes.{One, OneWith, OneWithBoth}
 use Rattle.format.specs.Parse.{parsed}
 use Rattle.format.specs.Scripts.{flat, set_scripts, whole}
 use Rattle.format.specs.Tables.{held, held_input, held_output, view}
-use Rattle.format.specs.Told.{told_left, told_listing, told_lock, told_looked, told_nth, told_numbered, told_parse, told_parsed, told_script, told_set, told_set_out}
-use Rattle.format.specs.Told.{told_tx, told_tx_out, told_utxo, told_with}
+use Rattle.format.specs.Told.{told_left, told_listing, told_lock, told_looked, told_nth, told_numbered, told_parse, told_parsed, told_script, told_set}
+use Rattle.format.specs.Told.{told_set_out, told_tx, told_tx_out, told_utxo, told_with}
 use Rattle.format.specs.Transaction.{lock_decided, output_script_def, script_part, unsigned_tx_def}
 use Rattle.format.specs.declared.Assignment.{Assignment}
 use Rattle.format.specs.declared.Listing.{Listing}
@@ -165,7 +164,8 @@ pub one_outcome_input_get_musig2_participant_pubkeys : (file pairs maps : List �
 one_outcome_input_get_musig2_participant_pubkeys file pairs maps psbt i aggregate leaf = one_looked _
 
 pub one_outcome_input_get_musig2_participant_count : (file pairs maps : List ℕ) (psbt : Psbt) (i : ℕ) (aggregate leaf : List ℕ)
-    → One (λ (r : Numbered). told_numbered r ≡ told_numbered (participant_count (input_participants file aggregate leaf (held_input file pairs maps psbt i))))
+    → One (λ (r : Numbered). told_numbered r
+    ≡ told_numbered (participant_count (input_participants file aggregate leaf (held_input file pairs maps psbt i))))
 one_outcome_input_get_musig2_participant_count file pairs maps psbt i aggregate leaf = one_numbered _
 
 pub one_outcome_input_get_musig2_participant : (file pairs maps : List ℕ) (psbt : Psbt) (i : ℕ) (aggregate leaf : List ℕ) (n : ℕ)

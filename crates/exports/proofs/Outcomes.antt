@@ -7,9 +7,9 @@ use mathlib.Core.List.{List}
 use Rattle.export_words.specs.Words.{asked, asked_in_def, exported, leaves, leaves_both, out_export, parse_export}
 use Rattle.exports.proofs.Ones.{one_asked, one_out, one_parse}
 use Rattle.format.specs.Fields.{amount, final_scriptsig, final_scriptwitness, get_witness_utxo, global_proof, global_share, input_participants, input_proof}
-use Rattle.format.specs.Fields.{input_share, non_witness_utxo, out_redeem_script, out_witness_script, output_index, output_participants, partial_sig, participant}
-use Rattle.format.specs.Fields.{participant_count, previous_txid, pub_nonce, redeem_script, required_height_locktime, required_time_locktime, script, sequence}
-use Rattle.format.specs.Fields.{sighash_type, sp_tweak, sp_v0_info, sp_v0_label, witness_script, witness_utxo_def}
+use Rattle.format.specs.Fields.{input_share, non_witness_utxo, out_redeem_script, out_witness_script, output_index, output_participants, partial_sig}
+use Rattle.format.specs.Fields.{participant, participant_count, previous_txid, pub_nonce, redeem_script, required_height_locktime, required_time_locktime}
+use Rattle.format.specs.Fields.{script, sequence, sighash_type, sp_tweak, sp_v0_info, sp_v0_label, witness_script, witness_utxo_def}
 use Rattle.format.specs.Lookups.{list, look, nth}
 use Rattle.format.specs.Outcomes.{OneWith, OneWithBoth, OneWithThree}
 use Rattle.format.specs.Parse.{parsed}
@@ -70,15 +70,18 @@ pub one_outcome_fastpsbt_global_sp_dleq_proofs : (file pairs maps report answer 
 one_outcome_fastpsbt_global_sp_dleq_proofs file pairs maps report answer = one_asked _
 
 pub one_outcome_fastpsbt_input_non_witness_utxo : (file pairs maps report : List ℕ) (i : ℕ) (answer : List ℕ)
-    → OneWith (λ (r : ℕ) answer₁. exported r answer₁ ≡ asked report answer (λ s. told_looked (non_witness_utxo file (held_input file pairs maps s i))))
+    → OneWith (λ (r : ℕ) answer₁. exported r answer₁
+    ≡ asked report answer (λ s. told_looked (non_witness_utxo file (held_input file pairs maps s i))))
 one_outcome_fastpsbt_input_non_witness_utxo file pairs maps report i answer = one_asked _
 
 pub one_outcome_fastpsbt_input_witness_utxo : (file pairs maps report : List ℕ) (i : ℕ) (answer : List ℕ)
-    → OneWith (λ (r : ℕ) answer₁. exported r answer₁ ≡ asked report answer (λ s. told_looked (witness_utxo_def file (held_input file pairs maps s i))))
+    → OneWith (λ (r : ℕ) answer₁. exported r answer₁
+    ≡ asked report answer (λ s. told_looked (witness_utxo_def file (held_input file pairs maps s i))))
 one_outcome_fastpsbt_input_witness_utxo file pairs maps report i answer = one_asked _
 
 pub one_outcome_fastpsbt_input_sighash_type : (file pairs maps report : List ℕ) (i : ℕ) (answer : List ℕ)
-    → OneWith (λ (r : ℕ) answer₁. exported r answer₁ ≡ asked report answer (λ s. told_numbered (sighash_type file (held_input file pairs maps s i))))
+    → OneWith (λ (r : ℕ) answer₁. exported r answer₁
+    ≡ asked report answer (λ s. told_numbered (sighash_type file (held_input file pairs maps s i))))
 one_outcome_fastpsbt_input_sighash_type file pairs maps report i answer = one_asked _
 
 pub one_outcome_fastpsbt_input_redeem_script : (file pairs maps report : List ℕ) (i : ℕ) (answer : List ℕ)
@@ -86,11 +89,13 @@ pub one_outcome_fastpsbt_input_redeem_script : (file pairs maps report : List �
 one_outcome_fastpsbt_input_redeem_script file pairs maps report i answer = one_asked _
 
 pub one_outcome_fastpsbt_input_witness_script : (file pairs maps report : List ℕ) (i : ℕ) (answer : List ℕ)
-    → OneWith (λ (r : ℕ) answer₁. exported r answer₁ ≡ asked report answer (λ s. told_looked (witness_script file (held_input file pairs maps s i))))
+    → OneWith (λ (r : ℕ) answer₁. exported r answer₁
+    ≡ asked report answer (λ s. told_looked (witness_script file (held_input file pairs maps s i))))
 one_outcome_fastpsbt_input_witness_script file pairs maps report i answer = one_asked _
 
 pub one_outcome_fastpsbt_input_final_scriptsig : (file pairs maps report : List ℕ) (i : ℕ) (answer : List ℕ)
-    → OneWith (λ (r : ℕ) answer₁. exported r answer₁ ≡ asked report answer (λ s. told_looked (final_scriptsig file (held_input file pairs maps s i))))
+    → OneWith (λ (r : ℕ) answer₁. exported r answer₁
+    ≡ asked report answer (λ s. told_looked (final_scriptsig file (held_input file pairs maps s i))))
 one_outcome_fastpsbt_input_final_scriptsig file pairs maps report i answer = one_asked _
 
 pub one_outcome_fastpsbt_input_final_scriptwitness : (file pairs maps report : List ℕ) (i : ℕ) (answer : List ℕ)
@@ -103,7 +108,8 @@ pub one_outcome_fastpsbt_input_previous_txid : (file pairs maps report : List �
 one_outcome_fastpsbt_input_previous_txid file pairs maps report i answer = one_asked _
 
 pub one_outcome_fastpsbt_input_output_index : (file pairs maps report : List ℕ) (i : ℕ) (answer : List ℕ)
-    → OneWith (λ (r : ℕ) answer₁. exported r answer₁ ≡ asked report answer (λ s. told_numbered (output_index file (held_input file pairs maps s i))))
+    → OneWith (λ (r : ℕ) answer₁. exported r answer₁
+    ≡ asked report answer (λ s. told_numbered (output_index file (held_input file pairs maps s i))))
 one_outcome_fastpsbt_input_output_index file pairs maps report i answer = one_asked _
 
 pub one_outcome_fastpsbt_input_sequence : (file pairs maps report : List ℕ) (i : ℕ) (answer : List ℕ)
@@ -182,7 +188,8 @@ pub one_outcome_fastpsbt_input_get_musig2_participant :
 one_outcome_fastpsbt_input_get_musig2_participant file pairs maps report i aggregate leaf n answer = one_asked _
 
 pub one_outcome_fastpsbt_input_get_witness_utxo : (file pairs maps report : List ℕ) (i : ℕ) (answer : List ℕ)
-    → OneWith (λ (r : ℕ) answer₁. exported r answer₁ ≡ asked report answer (λ s. told_utxo (get_witness_utxo file (held_input file pairs maps s i))))
+    → OneWith (λ (r : ℕ) answer₁. exported r answer₁
+    ≡ asked report answer (λ s. told_utxo (get_witness_utxo file (held_input file pairs maps s i))))
 one_outcome_fastpsbt_input_get_witness_utxo file pairs maps report i answer = one_asked _
 
 pub one_outcome_fastpsbt_output_redeem_script : (file pairs maps report : List ℕ) (i : ℕ) (answer : List ℕ)
@@ -208,7 +215,8 @@ pub one_outcome_fastpsbt_output_sp_v0_info : (file pairs maps report : List ℕ)
 one_outcome_fastpsbt_output_sp_v0_info file pairs maps report i answer = one_asked _
 
 pub one_outcome_fastpsbt_output_sp_v0_label : (file pairs maps report : List ℕ) (i : ℕ) (answer : List ℕ)
-    → OneWith (λ (r : ℕ) answer₁. exported r answer₁ ≡ asked report answer (λ s. told_numbered (sp_v0_label file (held_output file pairs maps s i))))
+    → OneWith (λ (r : ℕ) answer₁. exported r answer₁
+    ≡ asked report answer (λ s. told_numbered (sp_v0_label file (held_output file pairs maps s i))))
 one_outcome_fastpsbt_output_sp_v0_label file pairs maps report i answer = one_asked _
 
 pub one_outcome_fastpsbt_output_iter_keys : (file pairs maps report : List ℕ) (i key_type : ℕ) (answer : List ℕ)
