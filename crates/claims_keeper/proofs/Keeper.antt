@@ -25,13 +25,13 @@ use Rattle.claims_keeper.specs.Keeper.{Run, lock_written, Kept, fallen_refusal}
 reported_by_lem : (f P M : List ℕ) (s : Psbt) (p m : ℕ) (P' M' : List ℕ) (a : Accepts f P M s p m P' M')
     → reported (view f P' M' s) s ≡ reports (ins_of a.content) (outs_of a.content)
 unfolding report_of
-reported_by_lem f P M s p m P' M' a = rw (a.reports, a.pairs_left_lem, a.maps_left) (table_reported f a.content P M a.reads)
+reported_by_lem f P M s p m P' M' a = rw (a.reports, a.pairs_left, a.maps_left) (table_reported f a.content P M a.reads)
 
 module _ (f : List ℕ) (x : Run f) where
-  accepts : Accepts f x.pairs x.maps x.report x.pairs_used x.maps_used x.pairs_left_lem x.maps_left
+  accepts : Accepts f x.pairs x.maps x.report x.pairs_used x.maps_used x.pairs_left x.maps_left
   accepts = promised_accepts f _ _ _ _ _ _ _ x.parses
 
-  reported_is : (c : Content) → reading f ≡ accepted c → reported (view f x.pairs_left_lem x.maps_left x.report) x.report ≡ reports (ins_of c) (outs_of c)
+  reported_is : (c : Content) → reading f ≡ accepted c → reported (view f x.pairs_left x.maps_left x.report) x.report ≡ reports (ins_of c) (outs_of c)
   reported_is c reads =
       let same : accepted accepts.content ≡ accepted c = sym accepts.reads ∙ reads in
       let e : accepts.content ≡ c = cc in
@@ -42,7 +42,7 @@ module _ (f : List ℕ) (x : Run f) where
   unfolding lock_written
   keeper_content bytes n t w c reads =
       let h = subst (AllHonoured (lock_written x n)) (reported_is c reads)
-      (written_honours f x.pairs_left_lem x.maps_left x.report x.state x.scripts x.buffer bytes x.answer x.buffer_left x.calls n t w) in
+      (written_honours f x.pairs_left x.maps_left x.report x.state x.scripts x.buffer bytes x.answer x.buffer_left x.calls n t w) in
       record { met = h.0; honoured = h.1 }
 
   -- and the file has a content

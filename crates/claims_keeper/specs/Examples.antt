@@ -40,8 +40,8 @@ abbrev pub file_t : List ℕ
 file_t = file_fwith [] (time 86_400) script
 
 -- the pair table that the parse of either leaves
-abbrev pub pairs_left : List ℕ
-pairs_left = pairs_e ++ (29 ∷ 1 ∷ 31 ∷ 32 ∷ 64 ∷ 1 ∷ 66 ∷ 4 ∷ 71 ∷ 1 ∷ 73 ∷ 4 ∷ 79 ∷ 1 ∷ 81 ∷ 8 ∷ 90 ∷ 1 ∷ 92 ∷ 1 ∷ [])
+abbrev pub table_left : List ℕ
+table_left = pairs_e ++ (29 ∷ 1 ∷ 31 ∷ 32 ∷ 64 ∷ 1 ∷ 66 ∷ 4 ∷ 71 ∷ 1 ∷ 73 ∷ 4 ∷ 79 ∷ 1 ∷ 81 ∷ 8 ∷ 90 ∷ 1 ∷ 92 ∷ 1 ∷ [])
 
 -- a map table that gives the input n pairs: the parse of either leaves 3, whatever the table held
 abbrev pub maps_with : ℕ → List ℕ
@@ -53,7 +53,7 @@ parsed_f f = parsed f (replicate 36 9) (maps_with 2)
 
 -- what it leaves
 abbrev pub left : ParseOut
-left = out (Accepted psbt_f 9 3) pairs_left (maps_with 3)
+left = out (Accepted psbt_f 9 3) table_left (maps_with 3)
 
 -- of the first file
 pub parses_h : parsed_f file_h ≡ left
@@ -67,7 +67,7 @@ parses_t = refl
 
 -- the transaction of a file over a map table and a report, into a buffer of 61 bytes
 unfoldable pub tx_over : List ℕ → List ℕ → Psbt → TxOut
-tx_over f M s = unsigned_tx_def (view f pairs_left M s) s fresh [] (replicate 61 9)
+tx_over f M s = unsigned_tx_def (view f table_left M s) s fresh [] (replicate 61 9)
 
 -- a transaction was written
 abbrev after : State
@@ -82,35 +82,6 @@ lock_kept = refl
 pub clock_refused : tx_over file_t (maps_with 3) psbt_f ≡ tx_out (Refused BadValue) (replicate 61 9)
 unfolding computes tx_over
 clock_refused = refl
-
-module _ (f : List ℕ) (r : UnsignedTx) (B : List ℕ) where
-  -- a parse and a transaction over what it left are a run of which the claims speak
-  run_of : parsed_f f ≡ left → tx_over f (maps_with 3) psbt_f ≡ tx_out r B → Run f
-  unfolding parsed_f tx_over told_parse told_tx_out
-  run_of p c = record {
-    pairs = replicate 36 9;
-    maps = maps_with 2;
-    report = psbt_f;
-    pairs_used = 9;
-    maps_used = 3;
-    pairs_left_lem = pairs_left;
-    maps_left = maps_with 3;
-    parses = sym (ap told_parse p);
-    state = fresh;
-    scripts = [];
-    buffer = replicate 61 9;
-    answer = r;
-    buffer_left = B;
-    calls = sym (ap told_tx_out c);
-  }
-
--- so is that of the first file
-pub run_h : Run file_h
-run_h = run_of file_h _ _ parses_h lock_kept
-
--- and that of the second
-pub run_t : Run file_t
-run_t = run_of file_t _ _ parses_t clock_refused
 
 -- the lock honours the first file
 pub file_kept : KeptBy (reading file_h) 800_000

@@ -24,15 +24,15 @@ pub record Run (f : List ℕ) : Type 0 where
   pub report : Psbt
   pub pairs_used : ℕ
   pub maps_used : ℕ
-  pub pairs_left_lem : List ℕ
+  pub pairs_left : List ℕ
   pub maps_left : List ℕ
-  pub parses : told_with (told_parsed (Accepted report pairs_used maps_used)) pairs_left_lem maps_left ≡ told_parse (parsed f pairs maps)
+  pub parses : told_with (told_parsed (Accepted report pairs_used maps_used)) pairs_left maps_left ≡ told_parse (parsed f pairs maps)
   pub state : State
   pub scripts : List ℕ
   pub buffer : List ℕ
   pub answer : UnsignedTx
   pub buffer_left : List ℕ
-  pub calls : told_left (told_tx answer) buffer_left ≡ told_tx_out (unsigned_tx_def (view f pairs_left_lem maps_left report) report state scripts buffer)
+  pub calls : told_left (told_tx answer) buffer_left ≡ told_tx_out (unsigned_tx_def (view f pairs_left maps_left report) report state scripts buffer)
 
 -- the lock in the last four of the n bytes written
 unfoldable pub lock_written : {f : List ℕ} → Run f → ℕ → ℕ

@@ -155,4 +155,4 @@ accepted_is f P M s p m P' M' q = by (reading f) refl
         absurd (omega arith)
     by (accepted c) r =
         let a = parse_is f c P M r (room_of f c P M r (accepted_roomy f P M s p m P' M' q)) in
-        record { content = c; reads = r; reports = cc; pairs = cc; maps = cc; pairs_left_lem = cc; maps_left = cc }
+        record { content = c; reads = r; reports = cc; pairs = cc; maps = cc; pairs_left = cc; maps_left = cc }

@@ -257,4 +257,4 @@ module _ (f : List ℕ) (c : Content) (P M : List ℕ) (e : reading f ≡ accept
 -- whatever the room, so do the tables that an accepted parse leaves
 pub accepted_shows : (f P M : List ℕ) (s : Psbt) (p m : ℕ) (P' M' : List ℕ) (a : Accepts f P M s p m P' M')
     → (n : ℕ) → view f P' M' s n ≡ view_by n (maps_of a.content)
-accepted_shows f P M s p m P' M' a n = rw (a.reports, a.pairs_left_lem, a.maps_left) (view_is f a.content P M a.reads n)
+accepted_shows f P M s p m P' M' a n = rw (a.reports, a.pairs_left, a.maps_left) (view_is f a.content P M a.reads n)

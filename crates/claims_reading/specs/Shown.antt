@@ -83,5 +83,5 @@ pub record Accepts (f P M : List ℕ) (s : Psbt) (p m : ℕ) (P' M' : List ℕ) 
   pub reports : s ≡ psbt_of content.global.pairs
   pub pairs : p ≡ pairs_in (maps_of content)
   pub maps : m ≡ length (maps_of content)
-  pub pairs_left_lem : P' ≡ pair_table content P
+  pub pairs_left : P' ≡ pair_table content P
   pub maps_left : M' ≡ map_table content M
