@@ -17,7 +17,7 @@ use Rattle.heed_lines.specs.declared.Heed.{Heed}
 use Rattle.heed_lines.specs.declared.Heed.TheVariants.{Ignored, By}
 use Rattle.heed_lines.specs.Heeds.{final_sequence, is_final}
 use Rattle.claims_why.specs.Contents.{ins_heed}
-use Rattle.claims_why.specs.Sequences.{Final, Open, SaysOf}
+use Rattle.claims_why.specs.Sequences.{Final, SaysOf}
 
 -- an input that counts as final is
 final_is : (q : Sized) → is_final (asks_for q) ≡ true → (n : ℕ) → Spells (or_final q) n → n ≡ final_sequence

@@ -11,8 +11,8 @@ use Rattle.format.specs.declared.Psbt.{Psbt}
 use Rattle.format.specs.declared.State.{State}
 use Rattle.format.proofs.Tests.{never_true}
 use Rattle.export_words.proofs.Reports.{none_asked, none_asked_in, none_out}
-use Rattle.export_words.specs.Words.{Export, exported, answered, psbt_in, is_report, no_report, state_of, asked, asked_in_def, ExportWith}
-use Rattle.export_words.specs.Words.{leaves, ExportWithBoth, leaves_both, parse_left, parse_export, out_left, out_export}
+use Rattle.export_words.specs.Words.{Export, exported, answered, psbt_in, is_report, no_report, state_of, asked, asked_in_def}
+use Rattle.export_words.specs.Words.{leaves, leaves_both, parse_left, parse_export, out_left, out_export}
 
 -- the words are no report, or are one
 no_report_lem : (q b : Bool) → q ≡ b → not q ≡ true → b ≡ false

@@ -1,7 +1,5 @@
 -- Laws of one outcome for exported calls: number, answer and lent memory are told apart.
 use mathlib.Core.Path.{◌≡◌, sym, ◌∙◌}
-use mathlib.Core.List.{List}
-use Prim.Native.Nat.{ℕ}
 use Rattle.format.specs.Outcomes.{OneWith, OneWithBoth, OneWithThree}
 use Rattle.export_words.specs.Words.{Export, exported, ExportWith, leaves, ExportWithBoth, leaves_both}
 

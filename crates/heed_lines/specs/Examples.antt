@@ -4,7 +4,6 @@ use Rattle.format.specs.Locks.{lock_of}
 use Rattle.format.specs.declared.PsbtError.TheVariants.{BadValue, BadIndex}
 use Rattle.format.specs.declared.Numbered.{Numbered}
 use Rattle.format.specs.declared.Numbered.TheVariants as N
-use Rattle.format.specs.declared.Lock.{Lock}
 use Rattle.format.specs.declared.Lock.TheVariants as L
 use Rattle.text.specs.Say.{say}
 use Rattle.text.specs.Spelled.{digit, decimal_in, decimal}

@@ -23,7 +23,7 @@ use Rattle.format.proofs.Tests.{no_by}
 use Rattle.format.proofs.Keys.{same_is}
 use Rattle.format.proofs.Told.{parse_out_one}
 use Rattle.claims_reading.specs.Rooms.{pairs#, ended#, Roomy, answer, answer_of}
-use Rattle.claims_reading.specs.Shown.{Accepts, view_by}
+use Rattle.claims_reading.specs.Shown.{view_by}
 use Rattle.claims_reading.proofs.Rooms.{room_answers}
 use Rattle.claims_reading.proofs.Promised.{promised_accepts}
 use Rattle.claims_reading.proofs.Shown.{accepted_shows}

@@ -4,10 +4,6 @@ use Prim.Native.Nat.{◌-◌}
 use Rattle.heed_lines.proofs.Laws.{Heeding, heeding}
 use Rattle.heed_lines.proofs.heed_of.Statement.{statement}
 use Rattle.heed_lines.proofs.heed_of.Tie as tie
-use Rattle.heed_lines.proofs.heed_of.Reads as reads
-use Rattle.heed_lines.proofs.heed_of.Lts as lts
-use Rattle.heed_lines.proofs.is_final.Reads as is-final-reads
-use Rattle.typed.proofs.input.sequence.Reads as sequence-reads
 
 abbrev invariant-loop : tie.invariant-loop-i
 invariant-loop file pairs maps psbt i₀ i = Heeding file pairs maps psbt i

@@ -4,8 +4,6 @@ use Rattle.heed_lines.specs.Heeds.{is_final}
 use Rattle.heed_lines.proofs.Laws.{final_by}
 use Rattle.heed_lines.proofs.is_final.Statement.{statement}
 use Rattle.heed_lines.proofs.is_final.Tie as tie
-use Rattle.heed_lines.proofs.is_final.Reads as reads
-use Rattle.heed_lines.proofs.is_final.Lts as lts
 
 -- needs: needs, final-by | isFinal
 pub is_final_spec : {M : Type 1} → statement M

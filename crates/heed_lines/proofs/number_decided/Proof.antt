@@ -5,8 +5,6 @@ use Rattle.heed_lines.specs.Heeds.{number_decided}
 use Rattle.heed_lines.proofs.Laws.{number_by}
 use Rattle.heed_lines.proofs.number_decided.Statement.{statement}
 use Rattle.heed_lines.proofs.number_decided.Tie as tie
-use Rattle.heed_lines.proofs.number_decided.Reads as reads
-use Rattle.heed_lines.proofs.number_decided.Lts as lts
 
 -- needs: needs, number_by | lockOf numberDecided
 pub number_decided_spec : {M : Type 1} → statement M

@@ -3,10 +3,6 @@ use borrow.Author.Rules.{rules}
 use Rattle.heed_lines.proofs.Laws.{heed_lines}
 use Rattle.heed_lines.proofs.put_heed.Statement.{statement}
 use Rattle.heed_lines.proofs.put_heed.Tie as tie
-use Rattle.heed_lines.proofs.put_heed.Reads as reads
-use Rattle.heed_lines.proofs.put_heed.Lts as lts
-use Rattle.heed_lines.proofs.number_decided.Reads as number-decided-reads
-use Rattle.heed_lines.proofs.put_heed_text.Reads as put-heed-text-reads
 
 -- needs: needs, heed-lines
 pub put_heed_spec : {M : Type 1} → statement M

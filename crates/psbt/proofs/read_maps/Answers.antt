@@ -1,6 +1,6 @@
 -- `psbt::read_maps` is the definition's reading cut by the room: `Loops.antt` says what holds after each turn and at each way out.
 use Rattle.std.proofs.Common.{rules}
-use Rattle.psbt.proofs.Loops.{loops, one_key, one_value, one_writes, one_more, one_key_in, one_value_in}
+use Rattle.psbt.proofs.Loops.{loops, one_key, one_value, one_writes, one_key_in, one_value_in}
 use Rattle.psbt.proofs.Loops.{one_less, one_again, exit_22, map_writes, exit_after, exit_done, maps_next}
 use Rattle.psbt.proofs.read_maps.Goals as goal
 

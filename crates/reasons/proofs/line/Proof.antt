@@ -3,10 +3,6 @@ use borrow.Author.Rules.{rules}
 use Rattle.reasons.proofs.Rows.{lines}
 use Rattle.reasons.proofs.line.Statement.{statement}
 use Rattle.reasons.proofs.line.Tie as tie
-use Rattle.reasons.proofs.line.Reads as reads
-use Rattle.reasons.proofs.line.Lts as lts
-use Rattle.reasons.proofs.line_len.Reads as line-len-reads
-use Rattle.reasons.proofs.line_start.Reads as line-start-reads
 
 -- needs: needs, lines
 pub line_spec : {M : Type 1} → statement M

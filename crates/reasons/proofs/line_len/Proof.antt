@@ -5,8 +5,6 @@ use lib.ListN.{length}
 use Rattle.reasons.proofs.Rows.{Along, ends}
 use Rattle.reasons.proofs.line_len.Statement.{statement}
 use Rattle.reasons.proofs.line_len.Tie as tie
-use Rattle.reasons.proofs.line_len.Reads as reads
-use Rattle.reasons.proofs.line_len.Lts as lts
 
 abbrev invariant-loop : tie.invariant-loop-i
 invariant-loop text i₀ i = Along text i

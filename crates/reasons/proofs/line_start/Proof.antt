@@ -5,8 +5,6 @@ use lib.ListN.{length}
 use Rattle.reasons.proofs.Rows.{Passing, starts}
 use Rattle.reasons.proofs.line_start.Statement.{statement}
 use Rattle.reasons.proofs.line_start.Tie as tie
-use Rattle.reasons.proofs.line_start.Reads as reads
-use Rattle.reasons.proofs.line_start.Lts as lts
 
 abbrev invariant-loop : tie.invariant-loop-i
 invariant-loop text n i₀ left₀ i left = Passing text n i left
