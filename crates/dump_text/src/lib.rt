@@ -1,7 +1,9 @@
 // The text that the dump prints of a file, put into a lent buffer as far as it has room.
 #![tactic(auto)]
 
-ghost use Rattle.std.specs.Prelude.{◌≡◌, map, ◌+◌, ◌≤◌, length, take};
+ghost use Rattle.std.specs.Prelude.{◌≡◌, map, ◌+◌, ◌≤◌, length, take, OnOk, IfSome};
+ghost use Rattle.std.specs.Io.KnownBytes.{Appends};
+ghost use Rattle.rooms.specs.Limits.{longest};
 ghost use Rattle.format.specs.Entries.{shown};
 ghost use Rattle.format.specs.Tables.{view, maps_reported};
 ghost use Rattle.entries.specs.Words.{pair_count};
@@ -242,8 +244,12 @@ fn put_whole(out: &mut [u8], file: &[u8]) -> usize
     put_dump(out, 0, file)
 }
 
-// Reads a file, until it ends or is too long, and writes its dump. What is told of a failed read or write is its error.
-pub fn dump_input<R: Read, W: Write>(from: &mut R, to: &mut W) -> io::Result<()> {
+// Reads a file, until it ends or is too long, and writes its dump. The error is that of the read or the write that failed: of a
+// failed read nothing is written, of a failed write perhaps the front of the dump.
+pub fn dump_input<R: Read, W: Write>(from: &mut R, to: &mut W) -> io::Result<()>
+    ensures { OnOk result (IfSome (R.remaining from.old)
+        (λ f. Appends (W.contents to.old) (W.contents to.new) (dump (take (longest + 1) f)))) }
+{
     let mut file = file_room();
     let mut out = text_room();
     let got = read_full(from, &mut file)?;

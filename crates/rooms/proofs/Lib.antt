@@ -1,2 +1,3 @@
 pub mod Zeros
 pub mod Taken
+pub mod Inputs

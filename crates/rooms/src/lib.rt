@@ -1,12 +1,13 @@
 // What the programs that print a file's text have room for, the memory that they lend, and reading into it.
 #![tactic(auto)]
 
-ghost use Rattle.std.specs.Prelude.{◌≡◌, ◌≤◌, ◌+◌, ◌*◌, length, IfOk};
+ghost use Rattle.std.specs.Prelude.{◌≡◌, ◌≤◌, ◌<◌, ◌+◌, ◌*◌, length, take, IfOk};
+ghost use Rattle.std.specs.Io.KnownBytes.{Consumes, IsAtEnd};
 ghost use Rattle.format.specs.Entries.{pair_words, map_words};
 ghost use Rattle.rooms.specs.Limits.{longest, most_pairs, most_maps};
 ghost use Rattle.rooms.specs.Rooms.{pair_room, map_room, tx_room};
 
-use std::io::{self, ErrorKind, Read};
+use std::io::{self, Read};
 
 // The longest file that is read, in bytes.
 pub const LONGEST: usize = 65_536;
@@ -54,21 +55,20 @@ pub fn file_room() -> [u8; LONGEST + 1]
     [0; LONGEST + 1]
 }
 
-// Reads until `room` is full or the input ends, and answers how many bytes were read. A failed read ends it.
+// Reads until `room` is full or the input ends, and answers how many bytes stand at its front. The error is that of the
+// read that failed; what was read before it is lost.
 pub fn read_full<R: Read>(from: &mut R, room: &mut [u8]) -> io::Result<usize>
-    ensures { IfOk result (λ n. n ≤ length room.new) }
+    ensures bound { IfOk result (λ n. n ≤ length room.new) }
+    ensures bytes { IfOk result (λ n. Consumes (R.remaining from.old) (R.remaining from.new) (take n room.new)) }
+    ensures end { IfOk result (λ n. n < length room.new → IsAtEnd (R.remaining from.new)) }
 {
     let mut got = 0;
-    for _ in 0..u64::MAX {
-        match from.read(&mut room[got..]) {
-            Ok(0) => break,
-            Ok(n) => got += n,
-            Err(e) => {
-                if e.kind() != ErrorKind::Interrupted {
-                    return Err(e);
-                }
-            }
+    while got < room.len() {
+        let n = from.read(&mut room[got..])?;
+        if n == 0 {
+            break;
         }
+        got += n;
     }
     Ok(got)
 }

@@ -2,7 +2,9 @@
 // heeds the lock; of a refused file what refused it, and where.
 #![tactic(auto)]
 
-ghost use Rattle.std.specs.Prelude.{◌≡◌, ◌≤◌, length, take};
+ghost use Rattle.std.specs.Prelude.{◌≡◌, ◌+◌, ◌≤◌, length, take, OnOk, IfSome};
+ghost use Rattle.std.specs.Io.KnownBytes.{Appends};
+ghost use Rattle.rooms.specs.Limits.{longest};
 ghost use Rattle.text.specs.Spots.{spot, lay};
 ghost use Rattle.why_text.specs.Why.{height_asked, time_asked, inputs_text, accepted_text, refused_text, why_in, why};
 
@@ -139,8 +141,12 @@ fn put_whole(out: &mut [u8], file: &[u8]) -> usize
     put_why(out, 0, file)
 }
 
-// Reads a file, until it ends or is too long, and writes its text. What is told of a failed read or write is its error.
-pub fn why_input<R: Read, W: Write>(from: &mut R, to: &mut W) -> io::Result<()> {
+// Reads a file, until it ends or is too long, and writes its text. The error is that of the read or the write that failed: of a
+// failed read nothing is written, of a failed write perhaps the front of the text.
+pub fn why_input<R: Read, W: Write>(from: &mut R, to: &mut W) -> io::Result<()>
+    ensures { OnOk result (IfSome (R.remaining from.old)
+        (λ f. Appends (W.contents to.old) (W.contents to.new) (why (take (longest + 1) f)))) }
+{
     let mut file = file_room();
     let mut out = text_room();
     let got = read_full(from, &mut file)?;
