@@ -1,8 +1,8 @@
 /* Xoshberan, a verified reader of Bitcoin signing files (PSBT version 2), for C and C++.
 
    The library is libfastpsbt.a: `./library` in the repository proves it and writes it with this header into
-   target/library. It is for machines with 64-bit sizes. It allocates nothing, and of C's library needs memset
-   alone.
+   target/library. It is for machines with 64-bit sizes. It allocates nothing, and of C's library needs memcpy
+   and memset alone.
 
    What is lent. Memory crosses as a pointer and how many items it has, not how many bytes: bytes of a file or a
    buffer, 32-bit words of a table, 64-bit words of an answer. `file` is the signing file (up to
@@ -55,10 +55,10 @@
    time, on one file and its tables too, where each has written memory of its own (`answer`, and the tables of
    a parse, `scripts` or `out`). A file or table that a call reads isn't to be written meanwhile.
 
-   Stack. No call recurses. The deepest takes 856 bytes with its return address in the archive for x86-64, 896
-   compiled for 64-bit Arm and 1,984 for 64-bit RISC-V: the compiler's frames (-O3), summed along the calls. On
-   top come the arguments that the caller puts there (there are up to 18) and what memset takes. Painted stacks
-   on x86-64 show up to 936 bytes, arguments included.
+   Stack. No call recurses. The deepest takes 536 bytes with its return address in the archive for x86-64 and 576
+   in that for 64-bit Arm: the compiler's frames (-O3), summed along the calls. On top come the arguments that the
+   caller puts there (there are up to 18) and what memcpy and memset take, at their first call with what finds
+   them. Painted stacks on x86-64 show up to 624 bytes, arguments included.
 
    Room. A parse that finds a table full says which: FASTPSBT_PAIRS_FULL, FASTPSBT_MAPS_FULL. How many entries
    were used is in its answer, refused or not. Where tables can't grow, choose how many pairs and maps to serve.

@@ -6,8 +6,8 @@
 #     text.sh COUNT SEED..    these, and what both programs print of generated files, of each seed COUNT as for parses and COUNT as for
 #                             transactions; the seed `fixed` has the files by name, as many as there are
 #
-# PROGRAMS is the folder of the built programs, else target/bin of the repository (`rt check dump why` builds them). They are run under the
-# toolchain's loader, as front/parts does. Ends with 1 where a text differs.
+# PROGRAMS is the folder of the built programs, else target/front of the repository (`./dump FILE` and `./why FILE` build them there).
+# Ends with 1 where a text differs.
 set -eu
 export LC_ALL=C
 here=$(cd "$(dirname "$0")" && pwd -P)
@@ -43,13 +43,7 @@ done
 
 count=$1
 shift
-programs=$(cd "${PROGRAMS:-$root/target/bin}" && pwd -P)
-kit=$(cd "$(dirname "$(readlink -f "$(command -v rt)")")/.." && pwd -P)
-tools=$kit/on/$(uname -m)/toolchain
-emulator=$tools/bin/qemu-x86_64
-[ -x "$emulator" ] || emulator=
-# printed PROGRAM FILE
-printed() { $emulator "$tools/lib/ld-linux-x86-64.so.2" --library-path "$tools/lib" "$programs/$1" <"$2"; }
+programs=$(cd "${PROGRAMS:-$root/target/front}" && pwd -P)
 
 # compared NAME: both programs on the files that records lend
 compared() {
@@ -61,7 +55,7 @@ compared() {
   for file in *; do
     files=$((files + 1))
     for program in dump why; do
-      printed $program "$file" >"$work/printed"
+      "$programs/$program" <"$file" >"$work/printed"
       computed $program "$file" >"$work/computed"
       cat "$work/printed" >>"$work/$program"
       cmp -s "$work/printed" "$work/computed" && continue
