@@ -62,7 +62,8 @@ module _ (f P M : List ℕ) (s : Psbt) (m : ℕ) (l : m < maps_reported s) where
             listed = k;
             usable =
                 entry_usable f P (map_at M m) x
-                (map_there f P M s m true (sym (lt-ltb m (maps_reported s) l)) (map_count M) refl refl k (map_at M m) refl (fit_entry f P (map_at M m)) refl ∙ e);
+                (map_there f P M s m true (sym (lt-ltb m (maps_reported s) l)) (map_count M)
+                refl refl k (map_at M m) refl (fit_entry f P (map_at M m)) refl ∙ e);
           }
 
   whole_at : Whole f P M m → view f P M s m ≡ shows (pairs_of f P M m)
@@ -90,7 +91,8 @@ module _ (f P M : List ℕ) (s : Psbt) (m : ℕ) (k : Going f P M s m) (b : Bool
     more : m < maps_reported s
     more = ltb-true m (maps_reported s) (sym is ∙ q)
 
-    turn : ruled_by (gather_by (view f P M s m) (gather (view f P M s) (m + 1) (maps_reported s - (m + 1)))) ≡ ruled_by (gather (view f P M s) 0 (maps_reported s))
+    turn : ruled_by (gather_by (view f P M s m) (gather (view f P M s) (m + 1) (maps_reported s - (m + 1))))
+        ≡ ruled_by (gather (view f P M s) 0 (maps_reported s))
     unfolding gather
     turn =
         let n : suc (maps_reported s - (m + 1)) ≡ maps_reported s - m = omega (arith, more) in

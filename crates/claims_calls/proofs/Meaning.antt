@@ -73,7 +73,8 @@ module _ (f P M : List ℕ) (c : Content) (reads : reading f ≡ accepted c) (s 
   }
 
   -- any typed lookup, in map number n: of the content's pairs the value found, that there is none, or the refusal
-  pub field_means : (n : ℕ) (ok : Bool) (l : Length) (key : List ℕ) → answer_at f (asked ok l f key (held f P' M' s n)) ≡ look_in_def ok l key (view_by n (maps_of c))
+  pub field_means : (n : ℕ) (ok : Bool) (l : Length) (key : List ℕ)
+      → answer_at f (asked ok l f key (held f P' M' s n)) ≡ look_in_def ok l key (view_by n (maps_of c))
   field_means n ok l key = (calls_mean.maps n).field ok l key _ refl
 
   -- an answer that meets the promise of `get`: the bytes that it names are the value of that key in the content

@@ -284,7 +284,8 @@ script_by_lem t T n f (holds es) s =
     pick_ap (script_at f) b (script_place t n (place f (key_of 0x04 []) es)) (O.Refused BadIndex)
     ∙ ap (λ (x : Answer Script). pick b x (refuses BadIndex)) (script_in_lem f (key_of 0x04 []) t n es)
 
-pub script_part_by : (t : State) (T : List ℕ) (n : ℕ) → By (λ f h. script_part f T (output_script_def f t T n h)) (λ v. part_in_lem (bytes_with T) (script_in t T n v))
+pub script_part_by : (t : State) (T : List ℕ) (n : ℕ)
+    → By (λ f h. script_part f T (output_script_def f t T n h)) (λ v. part_in_lem (bytes_with T) (script_in t T n v))
 script_part_by t T n f h s = script_part_lem f T _ ∙ ap (part_in_lem (bytes_with T)) (script_by_lem t T n f h s)
 
 pub list_by : (t : ℕ) → By (λ f h. list_at f (list f t h) h) (list_in t)

@@ -27,7 +27,8 @@ pub record Means (f : List ℕ) (h : Held) (v : View) : Type 0 where
   pub member : (n : ℕ) (ok : Bool) (l : Length) (key : List ℕ) (r : Looked)
       → told_looked r ≡ told_looked (participant n (asked ok l f key h)) → answer_at f r ≡ participant_in n (look_in_def ok l key v)
   pub utxo : (r : Utxo) → told_utxo r ≡ told_utxo (get_witness_utxo f h) → utxo_at f r ≡ utxo_in (look_in_def true any_length (key_of 0x01 []) v)
-  pub script : (t : State) (T : List ℕ) (n : ℕ) (r : OutputScript) → told_script r ≡ told_script (output_script_def f t T n h) → script_at f r ≡ script_in t T n v
+  pub script : (t : State) (T : List ℕ) (n : ℕ) (r : OutputScript) → told_script r ≡ told_script (output_script_def f t T n h)
+      → script_at f r ≡ script_in t T n v
 
 -- over the tables P and M and the report s, calls on the file f answer by the content c: map number n is its map n, input number i its input i,
 -- output number i its output i; beyond them 14

@@ -20,7 +20,9 @@ use Rattle.claims_reading.proofs.Shown.{view_is}
 pub place_find : (f key : List ℕ) (es : List PairEntry) → found_at f (place f key es) ≡ find key (map (shown f) es)
 unfolding found_at place find shown value_in_def
 place_find f key [] = refl
-place_find f key (e ∷ es) = pick_ap (found_at f) (same key (key_in_def f e)) _ _ ∙ ap (pick (same key (key_in_def f e)) (found (value_in_def f e))) (place_find f key es)
+place_find f key (e ∷ es) =
+    pick_ap (found_at f) (same key (key_in_def f e)) _ _
+    ∙ ap (pick (same key (key_in_def f e)) (found (value_in_def f e))) (place_find f key es)
 
 -- a lookup in a map finds what the map shows
 any_length_lem : (y : Looked) → of_length_def any_length y ≡ y

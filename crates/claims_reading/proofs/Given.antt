@@ -368,7 +368,8 @@ module _ (f P M : List ℕ) (s : Psbt) where
   unfolding reported
   reported_gives = reported_by_gives s.inputs _ (gather_gives (view f P M s) (view_gives f P M s) (maps_reported s) 0)
 
-  pub scripts_give : (a : Given) (buffer : List ℕ) (t : State) (T T' : List ℕ) → Gives (λ e. set_out_def (S.Refused e) T') (set_scripts (view f P M s) s a buffer t T)
+  pub scripts_give : (a : Given) (buffer : List ℕ) (t : State) (T T' : List ℕ)
+      → Gives (λ e. set_out_def (S.Refused e) T') (set_scripts (view f P M s) s a buffer t T)
   unfolding set_scripts
   scripts_give a buffer t T T' = set_gives buffer t T T' a (reported (view f P M s) s) reported_gives
 

@@ -211,14 +211,17 @@ unfolding fit every shown
 fit_shows f last [] h = (refl, tt)
 fit_shows f last (e ∷ es) h =
     let a : (in_file f e && below last (key_in_def f e)) ≡ true = and_left (in_file f e && below last (key_in_def f e)) (fit f (key_in_def f e) es) h in
-    let i = fit_shows f (key_in_def f e) es (and_right (in_file f e && below last (key_in_def f e)) (fit f (key_in_def f e) es) h) in
-    (rw (and_left (in_file f e) (below last (key_in_def f e)) a) i.0, (below_is last (key_in_def f e) (and_right (in_file f e) (below last (key_in_def f e)) a), i.1))
+    let i = fit_shows f (key_in_def f e) es (and_right (in_file f e && below last (key_in_def f e)) (fit f (key_in_def f e) es) h) in (
+      rw (and_left (in_file f e) (below last (key_in_def f e)) a) i.0,
+      (below_is last (key_in_def f e) (and_right (in_file f e) (below last (key_in_def f e)) a), i.1),
+    )
 
 pub held_shows : (f P M : List ℕ) (s : Psbt) (m : ℕ) (es : List PairEntry)
     → held f P M s m ≡ holds es → (every (in_file f) es ≡ true) × Rises [] (map (shown f) es)
 unfolding held
 held_shows f P M s m es h =
-    let w : HeldFit f (held f P M s m) = pick_by (HeldFit f) (ltb m (maps_reported s)) _ _ (λ q. by_fit f (pair_entries P) (drop m (map_entries M))) (λ q. tt) in
+    let w : HeldFit f (held f P M s m) =
+    pick_by (HeldFit f) (ltb m (maps_reported s)) _ _ (λ q. by_fit f (pair_entries P) (drop m (map_entries M))) (λ q. tt) in
     fit_shows f [] es (subst (HeldFit f) h w)
 
 -- every map of the tables holds its entries

@@ -12,7 +12,8 @@ use Rattle.format.specs.Keys.{same}
 use Rattle.format.specs.Content.{Pair, Map, magic, map_bytes, maps_bytes, global_rule}
 use Rattle.format.specs.Reading.{limit, Mapped, ends, stops, mapped, Reading, done, refusal, begins, pair, ended, pair_events, map_events}
 use Rattle.format.specs.Reading.{unless, two, global_then, events_of, events, refused, outcome, reading}
-use Rattle.format.specs.Entries.{pair_words, map_words, has_room_def, pair_entry_words, map_entry_words, put_pair, put_map, pair_entries, map_entries, entry_of, width}
+use Rattle.format.specs.Entries.{pair_words, map_words, has_room_def, pair_entry_words, map_entry_words, put_pair, put_map, pair_entries, map_entries, entry_of}
+use Rattle.format.specs.Entries.{width}
 use Rattle.format.specs.Tables.{View, shows, held_by_def, view_of}
 use Rattle.format.specs.Parse.{ParseOut, out, cut, parsed}
 use Rattle.format.specs.declared.PsbtError.{PsbtError}
@@ -46,8 +47,11 @@ less n k t u h e = sym (take-take n k t h) ∙ ap (take n) e ∙ take-take n k u
 
 pair_keeps : (p m : ℕ) (P M : List ℕ) (e : PairEntry) (x : ParseOut) → Keeps (p + 1) m (put_pair P p e) M x → Keeps p m P M x
 unfolding put_pair
-pair_keeps p m P M e (out x P' M') h =
-    (less (p * pair_words) ((p + 1) * pair_words) P' _ (omega arith) h.0 ∙ take_sets (p * pair_words) (p * pair_words) P (pair_entry_words e) (omega arith), h.1)
+pair_keeps p m P M e (out x P' M') h = (
+  less (p * pair_words) ((p + 1) * pair_words) P' _ (omega arith) h.0
+      ∙ take_sets (p * pair_words) (p * pair_words) P (pair_entry_words e) (omega arith),
+  h.1,
+)
 
 map_keeps : (p m : ℕ) (P M : List ℕ) (e : MapEntry) (x : ParseOut) → Keeps p (m + 1) P (put_map M m e) x → Keeps p m P M x
 unfolding put_map
@@ -109,8 +113,8 @@ module _ (f : List ℕ) (g : Map) (s P' M' : List ℕ) (here : drop (length magi
   view_global =
       ap (λ (es : List MapEntry). view_of f (held_by_def f (pair_entries P') es)) maps_are
       ∙ ap (view_of f)
-      (held_here f (pair_entries P') 0 (g ∷ []) (length magic) 0 s (pair_entries (drop (length g.pairs * pair_words) P')) (map_entries (drop (1 * map_words) M'))
-      here (pairs_are ∙ rw append-nil) (omega arith) (good, tt) (omega arith))
+      (held_here f (pair_entries P') 0 (g ∷ []) (length magic) 0 s (pair_entries (drop (length g.pairs * pair_words) P'))
+      (map_entries (drop (1 * map_words) M')) here (pairs_are ∙ rw append-nil) (omega arith) (good, tt) (omega arith))
       ∙ view_here f 0 (g ∷ []) (length magic) s here
 
 -- so do those of a reading in which it ended, with room for its pairs

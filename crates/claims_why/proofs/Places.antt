@@ -133,7 +133,8 @@ unfolding one_of number_of
 past_end = record { eof = refl; compact = refl; twice = refl; falls = refl; value = refl; script = refl; payment = refl }
 
 -- so a refusal's number and the maps that ended tell what happened
-at_end : (e : PsbtError) (x : Place) (y : Ruled) → GlobalRefuses PastEnd e y → RuledOf AtEnd y → pick (one_of e MissingCounts NotAllowed) GlobalEnd x ≡ end_by y x
+at_end : (e : PsbtError) (x : Place) (y : Ruled) → GlobalRefuses PastEnd e y → RuledOf AtEnd y
+    → pick (one_of e MissingCounts NotAllowed) GlobalEnd x ≡ end_by y x
 unfolding end_by
 at_end e x Passed h g = pick_no _ _ _ h
 at_end e x (R.Refused z) h g = pick_yes _ _ _ (subst AtEnd h g)

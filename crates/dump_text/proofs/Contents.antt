@@ -52,7 +52,8 @@ unfolding dump_in parsed_text accepted_text content_text
 dump_accepted f c P M B e r =
     ap (parsed_text B f) (parse_is f c P M e r)
     ∙ every_call f c P M e (λ v. accepted_text v (psbt_of c.global.pairs) B)
-    ∙ ap (λ (l : List ℕ). head_line (psbt_of c.global.pairs) ++ (l ++ tx_line (unsigned_tx_def (λ n. view_by n (maps_of c)) (psbt_of c.global.pairs) fresh [] B)))
+    ∙ ap (λ (l : List ℕ). head_line (psbt_of c.global.pairs)
+    ++ (l ++ tx_line (unsigned_tx_def (λ n. view_by n (maps_of c)) (psbt_of c.global.pairs) fresh [] B)))
     (ap (maps_text (λ n. view_by n (maps_of c)) 0) (sym (one_plus_counts f c e)) ∙ lines_are (λ n. view_by n (maps_of c)) 0 (maps_of c)
     (λ j. ap (λ (n : ℕ). view_by n (maps_of c)) (zero-add j)))
 

@@ -60,7 +60,8 @@ pub key_some : (s t₁ t₂ t₃ : Spot) (k d : List ℕ) (b : ℕ) → (length 
 unfolding key_text
 key_some s t₁ t₂ t₃ k d b h p q x y z =
     let r : d ≡ data_of k = q ∙ part_rest 1 k ∙ (key_parts k h).1 in
-    lay_then _ _ _ _ _ (x ∙ ap (λ (n : ℕ). lay s (hex_byte n)) (p ∙ (key_parts k h).0)) (lay_then _ _ _ _ _ y (z ∙ ap (λ (l : List ℕ). lay t₂ (hex_or_dash l)) r))
+    lay_then _ _ _ _ _ (x ∙ ap (λ (n : ℕ). lay s (hex_byte n)) (p ∙ (key_parts k h).0))
+    (lay_then _ _ _ _ _ y (z ∙ ap (λ (l : List ℕ). lay t₂ (hex_or_dash l)) r))
 
 pub ruleset keys = (key_none, key_some)
 

@@ -102,7 +102,8 @@ module _ (at : ℕ) (D₀ f P M : List ℕ) (s : Psbt) (to : ℕ) (D : List ℕ)
     unfolding maps_text view
     turn =
         let n : suc (maps_reported s - (m + 1)) ≡ maps_reported s - m = omega (arith, more) in
-        ap (λ (v : View). lay (spot to D) (map_then m v (maps_text (view f P M s) (m + 1) (maps_reported s - (m + 1))))) (ap (view_of f) (map_held f P M s m r on))
+        ap (λ (v : View). lay (spot to D) (map_then m v (maps_text (view f P M s) (m + 1) (maps_reported s - (m + 1)))))
+        (ap (view_of f) (map_held f P M s m r on))
         ∙ ap (λ (n : ℕ). lay (spot to D) (maps_text (view f P M s) m n)) n ∙ k.is
 
     pub maps_stop : (e : PsbtError) → r ≡ Refused e → spot to D ≡ lay (spot at D₀) (maps_text (view f P M s) 0 (maps_reported s))

@@ -11,8 +11,8 @@ use Rattle.dump_text.specs.Dump.{tx_line, accepted_text, parsed_text, dump_in, d
 
 -- all that a dump is made of
 unfoldable pub prints : List ℕ → List ℕ
-unfolding computes digit hex_byte hex hex_or_dash decimal_in decimal signed_decimal refused_line version_text counts_text head_line
-    map_line key_text pair_text pair_line pairs_text map_text map_then maps_text unsigned_text unsigned_line zeros tx_line accepted_text parsed_text dump_in dump
+unfolding computes digit hex_byte hex hex_or_dash decimal_in decimal signed_decimal refused_line version_text counts_text head_line map_line key_text pair_text
+    pair_line pairs_text map_text map_then maps_text unsigned_text unsigned_line zeros tx_line accepted_text parsed_text dump_in dump
 prints = dump
 
 -- the text of E

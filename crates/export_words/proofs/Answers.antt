@@ -7,7 +7,8 @@ use mir.Val.{SFits, to_z, of_z}
 use mir.Facts.{to_z-of_z}
 use Rattle.format.specs.Refusals.{number_of}
 use Rattle.format.specs.Numbers.{unsigned}
-use Rattle.format.specs.Told.{flag, maybe_value, told_looked, told_numbered, told_listing, told_nth, told_utxo, told_lock, told_script, told_set, told_tx, told_parsed}
+use Rattle.format.specs.Told.{flag, maybe_value, told_looked, told_numbered, told_listing, told_nth, told_utxo, told_lock, told_script, told_set, told_tx}
+use Rattle.format.specs.Told.{told_parsed}
 use Rattle.format.specs.declared.PsbtError.{PsbtError}
 use Rattle.format.specs.declared.PsbtError.TheVariants.{BadIndex}
 use Rattle.format.specs.declared.PairEntry.{PairEntry}
@@ -36,7 +37,8 @@ use Rattle.format.specs.declared.Parsed.TheVariants as P
 use Rattle.export_words.specs.Words.{Export, word, words_of, answered_with, answered, no_report}
 
 -- where the words are no report
-pub no_report_lem : (A : List ℕ) (x : Export) (n : ℕ) → n ≡ number_of BadIndex → x ≡ answered_with A n (0 ∷ 0 ∷ 0 ∷ 0 ∷ 0 ∷ 0 ∷ 0 ∷ 0 ∷ []) → x ≡ answered A no_report
+pub no_report_lem : (A : List ℕ) (x : Export) (n : ℕ) → n ≡ number_of BadIndex → x ≡ answered_with A n (0 ∷ 0 ∷ 0 ∷ 0 ∷ 0 ∷ 0 ∷ 0 ∷ 0 ∷ [])
+    → x ≡ answered A no_report
 unfolding answered no_report words_of
 no_report_lem A x n k h = h ∙ rw k
 

@@ -154,11 +154,13 @@ pub parse_back : (f P M : List ℕ) → All Byte f → (s : Psbt) (p m : ℕ) (P
 parse_back f P M h s p m P' M' e rest = (accepted_report rest p m s, report_back rest p m s (parse_fits f P M h s p m P' M' e))
 
 -- what a parse leaves in the slice: its words, and behind them what was there
-slice_left : (A : List ℕ) → answer_words ≤ length A → (t : Told) (n : ℕ) (A' P Q M N : List ℕ) → leaves_both (exported n A') Q N ≡ parse_left A (told_with t P M)
+slice_left : (A : List ℕ) → answer_words ≤ length A → (t : Told) (n : ℕ) (A' P Q M N : List ℕ)
+    → leaves_both (exported n A') Q N ≡ parse_left A (told_with t P M)
     → A' ≡ words_told t ++ drop answer_words A
 unfolding parse_left answered answered_with words_told
 slice_left A long (told i vs) n A' P Q M N e =
-    let x : leaves_both (exported n A') Q N ≡ leaves_both (exported i (words_of vs ++ drop answer_words A)) P M = e ∙ rw (le-leb answer_words (length A) long) in
+    let x : leaves_both (exported n A') Q N ≡ leaves_both (exported i (words_of vs ++ drop answer_words A)) P M =
+    e ∙ rw (le-leb answer_words (length A) long) in
     cc
 
 -- the slice of eight words or more that an exported parse leaves

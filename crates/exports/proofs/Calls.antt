@@ -37,7 +37,8 @@ module _ (R A : List ℕ) (q : Bool) (h : q ≡ is_report R) (x : Export) where
     pub in_none : not q ≡ true → x ≡ answered A no_report → x ≡ asked_in_def a b R A k
     in_none n e = e ∙ sym (none_asked_in R A (no_report_lem q (is_report R) h n) a b k)
 
-    pub asked_in : not q ≡ false → (z : State) (s : Psbt) (t : Told) → z ≡ state_of a b → s ≡ psbt_in R → t ≡ k z s → x ≡ answered A t → x ≡ asked_in_def a b R A k
+    pub asked_in : not q ≡ false → (z : State) (s : Psbt) (t : Told) → z ≡ state_of a b → s ≡ psbt_in R → t ≡ k z s → x ≡ answered A t
+        → x ≡ asked_in_def a b R A k
     unfolding asked_in_def
     asked_in y z s t w p r e = asked_by (k (state_of a b)) y s t p (r ∙ ap (λ (z : State). k z s) w) e
 

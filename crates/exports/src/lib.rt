@@ -11,7 +11,8 @@ ghost use Rattle.format.specs.Lookups.{list, look, nth};
 ghost use Rattle.format.specs.Parse.{parsed};
 ghost use Rattle.format.specs.Scripts.{flat, set_scripts};
 ghost use Rattle.format.specs.Tables.{held, held_input, held_output, view};
-ghost use Rattle.format.specs.Told.{told_listing, told_lock, told_looked, told_nth, told_numbered, told_parse, told_script, told_set_out, told_tx_out, told_utxo};
+ghost use Rattle.format.specs.Told.{told_listing, told_lock, told_looked, told_nth, told_numbered, told_parse, told_script, told_set_out, told_tx_out};
+ghost use Rattle.format.specs.Told.{told_utxo};
 ghost use Rattle.format.specs.Transaction.{lock_decided, output_script_def, unsigned_tx_def};
 ghost use Rattle.export_words.specs.Words.{exported, asked, asked_in_def, leaves, leaves_both, out_export, parse_export};
 

@@ -71,7 +71,8 @@ module _ (f : List ℕ) (last e : PairEntry) (i : Bool) (is : i ≡ in_file f e)
   unfolding fit_one
   one_out q = q ∙ rw (sym is ∙ q)
 
-  pub one_in : i ≡ true → (r : Bool) (o : Order) (a b : List ℕ) → r ≡ is_below_def o → o ≡ order a b → a ≡ key_in_def f last → b ≡ key_in_def f e → r ≡ fit_one f last e
+  pub one_in : i ≡ true → (r : Bool) (o : Order) (a b : List ℕ) → r ≡ is_below_def o → o ≡ order a b → a ≡ key_in_def f last → b ≡ key_in_def f e
+      → r ≡ fit_one f last e
   unfolding fit_one below
   one_in q r o a b er eo ea eb = er ∙ ap is_below_def (eo ∙ ap₂ order ea eb) ∙ sym (rw (sym is ∙ q))
 

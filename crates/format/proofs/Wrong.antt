@@ -47,7 +47,8 @@ reports_e_for_all p m P M h =
 pub writes_no_entries : (r : Parsed) → out r (replicate 16 0) (replicate 2 0) ≡ parsed file_e (replicate 16 0) (replicate 2 0) → ⊥
 writes_no_entries r h = let k = h ∙ parsed_e in let z : ◌≡◌ {A = ℕ} 0 6 = cc in omega arith
 
-pub writes_no_transaction : (r : UnsignedTx) → tx_out r (replicate 61 0) ≡ unsigned_tx_def (view file_f pairs_f maps_f psbt_f) psbt_f fresh [] (replicate 61 0) → ⊥
+pub writes_no_transaction : (r : UnsignedTx) → tx_out r (replicate 61 0) ≡ unsigned_tx_def (view file_f pairs_f maps_f psbt_f) psbt_f fresh [] (replicate 61 0)
+    → ⊥
 writes_no_transaction r h = let k = h ∙ tx_f_lem in let z : ◌≡◌ {A = ℕ} 0 2 = cc in omega arith
 
 -- one that indexes the global map truly and fakes the others: whatever it leaves there, it is F's own entries

@@ -10,7 +10,8 @@ use Rattle.format.specs.Content.{find, field, present, number, maybe, size_value
 use Rattle.format.specs.Content.{global_rule, modifiable, output_by, output_rule, outputs_rule}
 use Rattle.format.specs.Reading.{limit, ruled, valued, risen, keyed, item_by_def, item, front, turn, items, mapped, pair_events}
 use Rattle.format.specs.Reading.{map_events, maps_events, unless, lastly, global_then, events_of, events}
-use Rattle.format.specs.Entries.{has_room_def, pair_entry_words, map_entry_words, put_pair, put_map, pair_entries, map_entries, entry_of, width, key_in_def, value_in_def, shown}
+use Rattle.format.specs.Entries.{has_room_def, pair_entry_words, map_entry_words, put_pair, put_map, pair_entries, map_entries, entry_of, width, key_in_def}
+use Rattle.format.specs.Entries.{value_in_def, shown}
 use Rattle.format.specs.Parse.{ParseOut, out, cut, parsed}
 use Rattle.format.specs.Tables.{in_file, fit, fitted, held_by_def, maps_reported, held, view_of, view, gather_by, gather}
 use Rattle.format.specs.Locks.{sized_to, in_of, asked_by_def, along, heights, times, is_misfit, misfit_by, misfits, greatest}

@@ -80,7 +80,8 @@ late n = asking (bytes (bytes_of 4 n)) missing
 
 -- what is told of inputs that ask, beside a fallback
 unfoldable pub decided : Maybe → List In → Told
-unfolding number_of le bytes_of asked_by_def along heights times is_misfit misfit_by misfits greatest height_lock time_lock or_zero decide_by well_formed decide told_lock
+unfolding number_of le bytes_of asked_by_def along heights times is_misfit misfit_by misfits greatest height_lock time_lock or_zero decide_by well_formed decide
+    told_lock
 decided f ins = told_lock (decide f ins)
 
 -- one input asks: a height below 500,000,000, a time of 500,000,000 or more
@@ -199,7 +200,8 @@ unfoldable pub calls : List (Row Told)
 calls =
     is (told_lock (lock_decided (views (shows [] ∷ height_map 5 ∷ height_map 9 ∷ shows [] ∷ [])) (reporting Absent 2 1))) (told 0 (nat 1 ∷ nat 9 ∷ nat 1 ∷ []))
     ∷ is (told_lock (lock_decided (views (height_map 5 ∷ shows [] ∷ height_map 9 ∷ [])) (reporting (Present 3) 1 1))) (told 0 (nat 0 ∷ nat 3 ∷ []))
-    ∷ is (told_lock (lock_decided (views (shows [] ∷ shows (pair_of 0x11 (bytes_of 4 6) ∷ []) ∷ [])) (reporting Absent 1 0))) (told 7 (nat 3 ∷ nat 6 ∷ nat 0 ∷ []))
+    ∷ is (told_lock (lock_decided (views (shows [] ∷ shows (pair_of 0x11 (bytes_of 4 6) ∷ []) ∷ [])) (reporting Absent 1 0)))
+    (told 7 (nat 3 ∷ nat 6 ∷ nat 0 ∷ []))
     ∷ is (told_lock (lock_decided (views (shows [] ∷ shows (pair_of 0x12 (1 ∷ []) ∷ []) ∷ [])) (reporting Absent 1 0))) (told 7 (nat 4 ∷ nat 0 ∷ []))
     ∷ is (told_lock (lock_decided (views (hides BadIndex ∷ [])) (reporting Absent 0 0))) (told 24 [])
     ∷ is (told_lock (lock_decided (views (shows [] ∷ hides BadIndex ∷ height_map 5 ∷ [])) (reporting Absent 2 0))) (told 24 [])
@@ -209,5 +211,6 @@ calls =
 
 -- so the call decides
 pub lock_call : Hold calls
-unfolding decided order same is_same_def key_of find field sized_to in_of out_of gather_by gather maps_reported reported_by reported lock_by lock_decided views calls
+unfolding decided order same is_same_def key_of find field sized_to in_of out_of gather_by gather maps_reported reported_by reported lock_by lock_decided views
+    calls
 lock_call = refl

@@ -75,8 +75,9 @@ taproot_shapes = refl
 
 -- the setter on outputs behind a global map and an input, with numbers given by threes
 unfoldable pub sets : List View → List ℕ → List ℕ → State → List ℕ → ToldOut
-unfolding number_of only every order same is_same_def key_of present find field gather_by gather maps_reported sized_to in_of out_of reported_by reported script_in
-    taproot allowed named served and_more flat entry_for entries_for right_for settable after_set set_table set_given set_by set_scripts told_set told_set_out views
+unfolding number_of only every order same is_same_def key_of present find field gather_by gather maps_reported sized_to in_of out_of reported_by reported
+    script_in taproot allowed named served and_more flat entry_for entries_for right_for settable after_set set_table set_given set_by set_scripts told_set
+    told_set_out views
 sets outs xs buffer t T = told_set_out (set_scripts (views (shows [] ∷ shows [] ∷ outs)) (reporting Absent 1 (length outs)) (flat xs) buffer t T)
 
 -- set, and the table

@@ -106,7 +106,8 @@ writers_told = refl
 unfoldable pub left : List (Row ToldOut)
 left =
     is (told_set_out (set_out_def (S.Refused NoRoom) (5 ∷ []))) (told_left (told 25 []) (5 ∷ []))
-    ∷ is (told_set_out (set_out_def (S.Done (record { set = true; written = false })) (5 ∷ 6 ∷ []))) (told_left (told 0 (flag true ∷ flag false ∷ [])) (5 ∷ 6 ∷ []))
+    ∷ is (told_set_out (set_out_def (S.Done (record { set = true; written = false })) (5 ∷ 6 ∷ [])))
+    (told_left (told 0 (flag true ∷ flag false ∷ [])) (5 ∷ 6 ∷ []))
     ∷ is (told_tx_out (tx_out (X.Refused BadValue) (5 ∷ []))) (told_left (told 7 []) (5 ∷ []))
     ∷ is (told_tx_out (tx_out (X.Written 2 (record { set = false; written = true })) (5 ∷ 6 ∷ [])))
     (told_left (told 0 (nat 2 ∷ flag false ∷ flag true ∷ [])) (5 ∷ 6 ∷ []))

@@ -196,7 +196,8 @@ whole =
     -- a second transaction, and one after scripts were set
     ∷ is (calls (shows [] ∷ shown_in ∷ plain_out ∷ []) 1 1 (record { set = false; written = true }) [] (replicate 61 9))
     (told_left (told 0 (nat 61 ∷ flag false ∷ flag true ∷ [])) tx61)
-    ∷ is (calls (shows [] ∷ silent_out ∷ []) 0 1 served (entry 7) (replicate 54 9)) (told_left (told 0 (nat 53 ∷ flag true ∷ flag true ∷ [])) (tx53 ++ (9 ∷ [])))
+    ∷ is (calls (shows [] ∷ silent_out ∷ []) 0 1 served (entry 7) (replicate 54 9))
+    (told_left (told 0 (nat 53 ∷ flag true ∷ flag true ∷ [])) (tx53 ++ (9 ∷ [])))
     ∷ is (calls (shows [] ∷ silent_out ∷ []) 0 1 (record { set = true; written = true }) (entry 7) (replicate 53 9))
     (told_left (told 0 (nat 53 ∷ flag true ∷ flag true ∷ [])) tx53)
     -- a table that was not set counts for nothing

@@ -2,7 +2,8 @@
 use Rattle.std.specs.Prelude.{ℕ, ◌≡◌, refl, true, false, List, [], ◌∷◌, ◌++◌, map, replicate}
 use Rattle.format.specs.Content.{magic}
 use Rattle.format.specs.Told.{told, none, nat, flag, told_left}
-use Rattle.format.specs.ExampleFiles.{tx_version_def, fallback, input_count, output_count, version, end, time, height, script, file_e, file_fwith, file_f, tx_e, tx_f}
+use Rattle.format.specs.ExampleFiles.{tx_version_def, fallback, input_count, output_count, version, end, time, height, script, file_e, file_fwith, file_f, tx_e}
+use Rattle.format.specs.ExampleFiles.{tx_f}
 use Rattle.format.specs.Computed.{Answers, stops, goes, answers, computes, refused_with, accepted_with}
 
 -- a proved example: its number, a file, and what is told of it

@@ -24,7 +24,8 @@ traces =
     ∷ 1 ∷ 8 ∷ 4 ∷ 13 ∷ 1 ∷ 15 ∷ 4 ∷ 20 ∷ 1 ∷ 22 ∷ 1 ∷ 24 ∷ 1 ∷ 26 ∷ 1 ∷ 28 ∷ 1 ∷ 30 ∷ 1 ∷ 32 ∷ 1 ∷ 34 ∷ 4 ∷ []) (0 ∷ 6 ∷ []))
     ∷ trace (magic ++ (input_count 0 ++ (1 ∷ 0x02 ∷ []))) (replicate 8 9)
     (replicate 2 9) (told_with (refused_with 6 1 0) (6 ∷ 1 ∷ 8 ∷ 1 ∷ 9 ∷ 9 ∷ 9 ∷ 9 ∷ []) (9 ∷ 9 ∷ []))
-    ∷ trace (magic ++ (tx_version_def ++ input_count 0)) (replicate 7 9) (replicate 2 9) (told_with (refused_with 22 1 0) (6 ∷ 1 ∷ 8 ∷ 4 ∷ 9 ∷ 9 ∷ 9 ∷ []) (9 ∷ 9 ∷ []))
+    ∷ trace (magic ++ (tx_version_def ++ input_count 0)) (replicate 7 9) (replicate 2 9)
+    (told_with (refused_with 22 1 0) (6 ∷ 1 ∷ 8 ∷ 4 ∷ 9 ∷ 9 ∷ 9 ∷ []) (9 ∷ 9 ∷ []))
     ∷ trace (magic ++ (version 3 ++ end)) (replicate 5 9) (replicate 3 9) (told_with (refused_with 8 1 1) (6 ∷ 1 ∷ 8 ∷ 4 ∷ 9 ∷ []) (0 ∷ 1 ∷ 9 ∷ []))
     ∷ trace (globals 0 1 [] [] ++ end) (replicate 17 9) (replicate 5 9) (told_with (refused_with 17 4 2) (pairs_e ++ (9 ∷ [])) (0 ∷ 4 ∷ 4 ∷ 0 ∷ 9 ∷ []))
     -- lengths and an end spelled by three bytes: what follows stands behind all of them

@@ -30,5 +30,3 @@ bare_not key t h = sym (no_by (same (t ∷ []) key) (λ q. h (ap length (sym (sa
 
 pub bare_other : (key : List ℕ) (t : ℕ) → (length key ≡ 1 → ⊥) → eqb (length key) 1 ≡ same (key_of t []) key
 bare_other key t h = ne_eqb (length key) 1 h ∙ bare_not key t h
-
-pub ruleset bare = (bare_one, bare_other)

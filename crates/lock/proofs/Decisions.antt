@@ -6,7 +6,8 @@ use Prim.Native.Nat.{ℕ, ◌+◌}
 use lib.Dec.{ltb}
 use Rattle.format.specs.Tests.{pick, keep_if}
 use Rattle.format.specs.Locks as D
-use Rattle.format.specs.Locks.{Sized, missing, misfit, is, In, along, asked_by_def, heights, times, is_misfit, misfit_by, misfits, greatest, well_formed, decide}
+use Rattle.format.specs.Locks.{Sized, missing, misfit, is, In, along, asked_by_def, heights, times, is_misfit, misfit_by, misfits, greatest, well_formed}
+use Rattle.format.specs.Locks.{decide}
 use Rattle.format.specs.declared.Maybe.{Maybe}
 use Rattle.lock.specs.declared.Wish.{Wish}
 use Rattle.lock.specs.declared.Kind.{Kind}
@@ -14,7 +15,8 @@ use Rattle.lock.specs.declared.Kind.TheVariants.{Unasked, Asked}
 use Rattle.lock.specs.declared.Fault.{Fault}
 use Rattle.lock.specs.declared.Fault.TheVariants.{Nowhere, Input}
 use Rattle.lock.specs.declared.Asks.{Asks}
-use Rattle.lock.specs.Asks.{wish_of, is_wrong, raised, topped_by, fault_by, seen, seen_in, no_asks, walk, height_by, time_by, decide_kinds, decide_by, decide_asks}
+use Rattle.lock.specs.Asks.{wish_of, is_wrong, raised, topped_by, fault_by, seen, seen_in, no_asks, walk, height_by, time_by, decide_kinds, decide_by}
+use Rattle.lock.specs.Asks.{decide_asks}
 
 -- a kind with further numbers asked for
 unfoldable topped : Kind → List D.Asked → Kind

@@ -160,7 +160,8 @@ module _ (f P a : List ℕ) (fit : Fit) (h : Held) (q : held_of P fit ≡ h) (r 
   unfolding input_participants key_fits_def length_of
   input_list l ok e k = ap told_looked (e ∙ rw (k, q))
 
-  pub output_list : r ≡ asked (eqb (length a) 33) (length_of W.KeyList) f (key_of 0x08 a) (held_of P fit) → told_looked r ≡ told_looked (output_participants f a h)
+  pub output_list : r ≡ asked (eqb (length a) 33) (length_of W.KeyList) f (key_of 0x08 a) (held_of P fit)
+      → told_looked r ≡ told_looked (output_participants f a h)
   unfolding output_participants length_of
   output_list e = ap told_looked (e ∙ rw q)
 

@@ -223,7 +223,8 @@ module _ (f : List ℕ) (t : State) (T : List ℕ) (i : ℕ) (y : Found) where
 
 -- any answer that meets the promise of an output whose map is fit, and is no refusal, names the script that a transaction takes for it
 module _ (f P : List ℕ) (m : MapEntry) (t : State) (T : List ℕ) (i : ℕ) where
-  names : (x : FoundAt) → x ≡ field_at f P 0x04 m → Names f t T i (field 0x04 (map (shown f) (entries_of P m))) (output_script_def f t T i (holds (entries_of P m)))
+  names : (x : FoundAt) → x ≡ field_at f P 0x04 m
+      → Names f t T i (field 0x04 (map (shown f) (entries_of P m))) (output_script_def f t T i (holds (entries_of P m)))
   unfolding found_in_def
   names F.Missing ex =
       subst (Names f t T i (field 0x04 (map (shown f) (entries_of P m)))) (script_missing f P m F.Missing ex t T i refl (in_table t T i) refl)
@@ -232,7 +233,8 @@ module _ (f P : List ℕ) (m : MapEntry) (t : State) (T : List ℕ) (i : ℕ) wh
       subst (Names f t T i (field 0x04 (map (shown f) (entries_of P m)))) (script_there f P m (F.At s n) ex t T i s n refl (in_file t T i s n) refl)
       (file_names f t T i _ s n (sym (found_shows f P 0x04 m (F.At s n) ex)))
 
-  pub script_is : (r : OutputScript) → told_script r ≡ told_script (output_script_def f t T i (holds (entries_of P m))) → ((e : PsbtError) → r ≡ O.Refused e → ⊥)
+  pub script_is : (r : OutputScript) → told_script r ≡ told_script (output_script_def f t T i (holds (entries_of P m)))
+      → ((e : PsbtError) → r ≡ O.Refused e → ⊥)
       → standing f T r ≡ script_of (out_of (map (shown f) (entries_of P m))).script (entry_at (set_so_far t T) i)
   unfolding out_of
   script_is r p = subst (Names f t T i (field 0x04 (map (shown f) (entries_of P m)))) (sym (script_one r _ p)) (names (field_at f P 0x04 m) refl)

@@ -39,7 +39,8 @@ pub cut_lean_lem : (at p m i : ℕ) (P M : List ℕ) (r : Reading) → cut at p 
 unfolding cut cut_lean lean
 cut_lean_lem at p m i P M (R.done c) = refl
 cut_lean_lem at p m i P M (R.refusal e) = refl
-cut_lean_lem at p m i P M (R.begins r) = ap (λ (o : ParseOut). pick (has_room_def map_words m M) o (out (A.Refused MapsFull p m) P M)) (cut_lean_lem at p m i P M r)
+cut_lean_lem at p m i P M (R.begins r) =
+    ap (λ (o : ParseOut). pick (has_room_def map_words m M) o (out (A.Refused MapsFull p m) P M)) (cut_lean_lem at p m i P M r)
 cut_lean_lem at p m i P M (R.pair q r) =
     ap (λ (o : ParseOut). pick (has_room_def pair_words p P) o (out (A.Refused PairsFull p m) P M))
     (cut_lean_lem (at + width q) (p + 1) m i (put_pair P p (entry_of at q)) M r)

@@ -260,7 +260,8 @@ module _ (F P₁ M : List ℕ) (w₁ : Known) (at₁ p₁ m : ℕ) (P : List ℕ
     unfolding step_cut
     exit_stop e q = sym (here (Stop e) q) ∙ so
 
-    pub exit_22 : (e : PairEntry) → o ≡ One e → (c : Bool) → c ≡ has_room_def pair_words p P → not c ≡ true → out (A.Refused PairsFull p m) P M ≡ maps_read F P₀ M₀
+    pub exit_22 : (e : PairEntry) → o ≡ One e → (c : Bool) → c ≡ has_room_def pair_words p P → not c ≡ true
+        → out (A.Refused PairsFull p m) P M ≡ maps_read F P₀ M₀
     unfolding step_cut
     exit_22 e q c r k = sym (here (One e) q ∙ rw (room_no c (has_room_def pair_words p P) r k)) ∙ so
 

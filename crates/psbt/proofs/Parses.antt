@@ -95,6 +95,7 @@ unfolding answer
 parse_verdict F P M r P' M' h q = ap answer (sym (parse_is F P M r P' M' q)) ∙ room_answers F P M h
 
 -- a file that is accepted has a content, and the tables left show exactly that
-pub parse_shows : (F P M : List ℕ) (s : Psbt) (p m : ℕ) (P' M' : List ℕ) (q : told_with (told_parsed (A.Accepted s p m)) P' M' ≡ told_parse (parsed F P M)) (n : ℕ)
+pub parse_shows : (F P M : List ℕ) (s : Psbt) (p m : ℕ) (P' M' : List ℕ)
+    (q : told_with (told_parsed (A.Accepted s p m)) P' M' ≡ told_parse (parsed F P M)) (n : ℕ)
     → view F P' M' s n ≡ view_by n (maps_of (promised_accepts F P M s p m P' M' q).content)
 parse_shows F P M s p m P' M' q n = accepted_shows F P M s p m P' M' (promised_accepts F P M s p m P' M' q) n

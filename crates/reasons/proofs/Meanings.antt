@@ -54,7 +54,8 @@ pub meaning_by : (s t : Spot) (e : PsbtError) (n : ℕ) (b : List ℕ) → n ≡
 meaning_by s t e n b q l h = h ∙ ap (lay s) (l ∙ ap (λ (m : ℕ). line m (lines meanings)) q ∙ in_lines e)
 
 -- a refusal's line, by its number
-pub refused_line_lem : (s t₁ t₂ t₃ t₄ t₅ : Spot) (e : PsbtError) (n : ℕ) → n ≡ number_of e → t₁ ≡ lay s say_refused → t₂ ≡ lay t₁ (decimal n) → t₃ ≡ lay t₂ say_that
+pub refused_line_lem : (s t₁ t₂ t₃ t₄ t₅ : Spot) (e : PsbtError) (n : ℕ) → n ≡ number_of e → t₁ ≡ lay s say_refused → t₂ ≡ lay t₁ (decimal n)
+    → t₃ ≡ lay t₂ say_that
     → t₄ ≡ lay t₃ (meaning e) → t₅ ≡ lay t₄ newline
     → t₅ ≡ lay s (refused_line e)
 unfolding refused_line

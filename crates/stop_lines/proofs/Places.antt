@@ -34,7 +34,8 @@ use Rattle.text.specs.Say.{say}
 use Rattle.text.specs.Spelled.{decimal}
 use Rattle.text.proofs.Chains.{chain2, chain3}
 use Rattle.reasons.proofs.Meanings.{by_case}
-use Rattle.stop_lines.specs.Stops.{one_of, behind_global, in_map_def, place_at, pairs_before, pairs_passed, global_shown, count_shown, stopped, after_pairs, stop_line}
+use Rattle.stop_lines.specs.Stops.{one_of, behind_global, in_map_def, place_at, pairs_before, pairs_passed, global_shown, count_shown, stopped, after_pairs}
+use Rattle.stop_lines.specs.Stops.{stop_line}
 use Rattle.stop_lines.specs.declared.Place.{Place}
 use Rattle.stop_lines.specs.declared.Place.TheVariants.{Nowhere, Global, GlobalEnd}
 

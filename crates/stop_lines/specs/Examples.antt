@@ -13,7 +13,8 @@ use Rattle.entries.specs.Words.{map_at}
 use Rattle.claims_reading.specs.Found.{find_in}
 use Rattle.text.specs.Say.{say}
 use Rattle.text.specs.Spelled.{digit, decimal_in, decimal}
-use Rattle.stop_lines.specs.Stops.{one_of, behind_global, in_map_def, place_at, pairs_before, pairs_passed, global_shown, count_shown, stopped, after_pairs, stop_line}
+use Rattle.stop_lines.specs.Stops.{one_of, behind_global, in_map_def, place_at, pairs_before, pairs_passed, global_shown, count_shown, stopped, after_pairs}
+use Rattle.stop_lines.specs.Stops.{stop_line}
 use Rattle.stop_lines.specs.declared.Place.{Place}
 
 -- the line of a parse, none where it is accepted

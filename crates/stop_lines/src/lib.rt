@@ -3,7 +3,8 @@
 
 ghost use Rattle.std.specs.Prelude.{◌≡◌};
 ghost use Rattle.text.specs.Spots.{spot, lay};
-ghost use Rattle.stop_lines.specs.Stops.{one_of, pairs_before, pairs_passed, count_shown, behind_global, place_at, stopped, after_pairs, numbered_line, stop_line};
+ghost use Rattle.stop_lines.specs.Stops.{one_of, pairs_before, pairs_passed, count_shown, behind_global, place_at, stopped, after_pairs, numbered_line};
+ghost use Rattle.stop_lines.specs.Stops.{stop_line};
 
 use format::{Maybe, PSBT_GLOBAL_INPUT_COUNT, PSBT_GLOBAL_OUTPUT_COUNT, Psbt, PsbtError, Size};
 use text::{put, put_decimal};

@@ -11,7 +11,8 @@ use lib.ListN.{length}
 use Rattle.format.specs.Tests.{pick, every}
 use Rattle.format.specs.Content.{present}
 use Rattle.format.specs.Tables.{view, gather, maps_reported}
-use Rattle.format.specs.Scripts.{Out, Given, script_entry, allowed, named, served, whole, flat, entry_for, settable, set_out_def, set_given, set_by, set_scripts}
+use Rattle.format.specs.Scripts.{Out, Given, script_entry, allowed, named, served, whole, flat, entry_for, settable, set_out_def, set_given, set_by}
+use Rattle.format.specs.Scripts.{set_scripts}
 use Rattle.format.specs.Told.{told_left, told_set, told_set_out}
 use Rattle.format.specs.declared.PsbtError.TheVariants.{InvalidOutputScripts, NoRoom}
 use Rattle.format.specs.declared.Psbt.{Psbt}

@@ -40,6 +40,7 @@ pub setters_agree : (v : ℕ → View) (s : Psbt) (xs : List Assignment) (buffer
     → (a ≡ b) × (T₁ ≡ T₂)
 unfolding told_set_out
 setters_agree v s xs buffer t T T₁ T₂ a b p q =
-    let n : told_set_out (set_out_def a T₁) ≡ told_set_out (set_out_def b T₂) = p ∙ ap (λ (g : Given). told_set_out (set_scripts v s g buffer t T)) (flat_back xs) ∙ sym q in
+    let n : told_set_out (set_out_def a T₁) ≡ told_set_out (set_out_def b T₂) =
+    p ∙ ap (λ (g : Given). told_set_out (set_scripts v s g buffer t T)) (flat_back xs) ∙ sym q in
     let e : set_out_def a T₁ ≡ set_out_def b T₂ = set_out_one (set_out_def a T₁) (set_out_def b T₂) n in
     ((cc), (cc))

@@ -78,7 +78,7 @@ fn note(buffer: &[u8], psbt: Psbt, task: Task, a: Assignment) -> Task
     }
 }
 
-// What all records answer. Proved by hand.
+// What all records answer.
 fn tally(list: &[Assignment], buffer: &[u8], psbt: Psbt, task: Task) -> Task
     ensures { result ≡ tallied buffer.now psbt.outputs task list.now }
 {
@@ -244,8 +244,7 @@ fn turn(
     }
 }
 
-// Sets scripts for the outputs without one: a list of records, their buffer, and a table of 35 bytes for each output. Proved
-// by hand.
+// Sets scripts for the outputs without one: a list of records, their buffer, and a table of 35 bytes for each output.
 pub fn set_sp_output_scripts(
     file: &[u8],
     pairs: &[u32],
@@ -268,7 +267,7 @@ pub fn set_sp_output_scripts(
     answer_of(task)
 }
 
-// The same of two records that are passed by value. Proved by hand: whoever calls it needs no walk.
+// The same of two records that are passed by value.
 pub fn set_two(
     file: &[u8],
     pairs: &[u32],

@@ -83,7 +83,8 @@ pub lay_first : (at : ℕ) (D S : List ℕ) → Laying at D S at D 0
 lay_first at D S = record { long = refl; is = refl }
 
 module _ (at : ℕ) (D₀ S : List ℕ) (to : ℕ) (D : List ℕ) (j : ℕ) (k : Laying at D₀ S to D j) where
-  pub lay_more : (to' : ℕ) (D' : List ℕ) → j < length S → length D' ≡ length D → spot to' D' ≡ lay_byte (spot to D) (get_or S j 0) → Laying at D₀ S to' D' (j + 1)
+  pub lay_more : (to' : ℕ) (D' : List ℕ) → j < length S → length D' ≡ length D → spot to' D' ≡ lay_byte (spot to D) (get_or S j 0)
+      → Laying at D₀ S to' D' (j + 1)
   unfolding lay
   lay_more to' D' h l e =
       record {
@@ -177,7 +178,8 @@ digits_are (suc w) n (suc (suc k)) f h =
     rw (le-ltb n 10 q)
     (ap₂ (λ (l : List ℕ) (x : ℕ). l ++ (x ∷ [])) (digits_are w (n / 10) (suc k) (omega arith, a, λ l. b) (omega arith)) (sym (digit_glyph (n % 10))))
 
-pub spelled : (s t : Spot) (n k : ℕ) (D : List ℕ) → IsDigitCount 10 1 n k → Fits w64 n → take k D ≡ last_digits 10 k n → t ≡ lay s (take k D) → t ≡ lay s (decimal n)
+pub spelled : (s t : Spot) (n k : ℕ) (D : List ℕ) → IsDigitCount 10 1 n k → Fits w64 n → take k D ≡ last_digits 10 k n → t ≡ lay s (take k D)
+    → t ≡ lay s (decimal n)
 unfolding decimal
 spelled s t n k D f h d e =
     let b : n < 10 ^ 20 = omega (arith, h.fits) in

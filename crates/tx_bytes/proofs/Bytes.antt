@@ -21,7 +21,8 @@ use Rattle.format.proofs.Tests.{pick_by, never_true, and_left, and_right}
 use Rattle.all_maps_fit.specs.Alls.{in_at, out_at, from, ins_of}
 use Rattle.writer.specs.Writes.{wrote, size_length}
 use Rattle.writer.proofs.Writes.{wrote_append, wrote_then, wrote_none}
-use Rattle.tx_size.specs.Lengths.{is_there, scripted, script_bytes, input_length, out_length, outs_length, capped, measure_by, out_measure, outs_measure, fixed_length}
+use Rattle.tx_size.specs.Lengths.{is_there, scripted, script_bytes, input_length, out_length, outs_length, capped, measure_by, out_measure, outs_measure}
+use Rattle.tx_size.specs.Lengths.{fixed_length}
 use Rattle.tx_size.specs.Places.{out_now, outs_now}
 use Rattle.tx_size.specs.declared.Measure.TheVariants.{Takes}
 use Rattle.tx_size.proofs.Lengths.{more_takes, measure_is}
@@ -68,7 +69,9 @@ all_from Q g h i (suc n) = (h i, all_from Q g h (i + 1) n)
 
 pub sized_ins : (f P M : List ℕ) (s : Psbt) → All SizedIn (ins_of f P M s)
 unfolding ins_of in_at in_of
-sized_ins f P M s = all_from SizedIn (in_at f P M) (λ i. record { txid= = sized_to_lem 32 _; index= = sized_to_lem 4 _; sequence= = sized_to_lem 4 _ }) 0 s.inputs
+sized_ins f P M s =
+    all_from SizedIn (in_at f P M)
+    (λ i. record { txid= = sized_to_lem 32 _; index= = sized_to_lem 4 _; sequence= = sized_to_lem 4 _ }) 0 s.inputs
 
 pub sized_outs : (f P M : List ℕ) (s : Psbt) (t : State) (T : List ℕ) → All SizedOut (outs_now f P M s t T)
 unfolding outs_now out_now scripted out_at out_of

@@ -105,7 +105,8 @@ module _ (f P M : List ℕ) (s : Psbt) (B₀ : List ℕ) (at : ℕ) (B : List �
     pub put_to : length B₀ < 2 ^ 64 → Fits w64 (to + input_length)
     put_to g = record { fits = omega (arith, k.room, k.long) }
 
-    pub put_more : (m : MapEntry) → m ≡ map_at M (1 + i) → (B₁ : List ℕ) → B₁ ≡ put_input B to (in_in f P m) → Putting f P M s B₀ at B₁ (i + 1) (to + input_length)
+    pub put_more : (m : MapEntry) → m ≡ map_at M (1 + i) → (B₁ : List ℕ) → B₁ ≡ put_input B to (in_in f P m)
+        → Putting f P M s B₀ at B₁ (i + 1) (to + input_length)
     unfolding put_inputs
     put_more m e B₁ q =
         record {

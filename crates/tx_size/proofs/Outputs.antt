@@ -20,7 +20,8 @@ use Rattle.all_maps_fit.specs.Places.{sized_in}
 use Rattle.all_maps_fit.specs.declared.SizedAt.{SizedAt}
 use Rattle.all_maps_fit.specs.declared.SizedAt.TheVariants as S
 use Rattle.all_maps_fit.proofs.Runs.{rest_none, rest_one, rest_all}
-use Rattle.tx_size.specs.Lengths.{is_there, scripted, script_bytes, out_length, capped, measure_by, out_measure, more_by, outs_measure, fixed_length, tx_measure}
+use Rattle.tx_size.specs.Lengths.{is_there, scripted, script_bytes, out_length, capped, measure_by, out_measure, more_by, outs_measure, fixed_length}
+use Rattle.tx_size.specs.Lengths.{tx_measure}
 use Rattle.tx_size.specs.Places.{pairs_in, out_in, out_now, outs_now, there_at, script_in, script_length, has_script}
 use Rattle.tx_size.specs.declared.Measure.{Measure}
 use Rattle.tx_size.specs.declared.Measure.TheVariants.{Refused, Takes}

@@ -10,7 +10,8 @@ use Rattle.format.specs.Compact.{shortest}
 use Rattle.format.specs.Content.{Found, absent, found}
 use Rattle.format.specs.Locks.{Sized, missing, misfit, is, In}
 use Rattle.format.specs.Scripts.{Out, script_entry}
-use Rattle.format.specs.Transaction.{Tx, refuses, writes, ahead, needs, needs_script, or_final, script_of, input_then, inputs_then, output_then, outputs_then, tx_with}
+use Rattle.format.specs.Transaction.{Tx, refuses, writes, ahead, needs, needs_script, or_final, script_of, input_then, inputs_then, output_then, outputs_then}
+use Rattle.format.specs.Transaction.{tx_with}
 use Rattle.format.specs.declared.PsbtError.{PsbtError}
 use Rattle.format.specs.declared.PsbtError.TheVariants.{BadValue, MissingOutputScript}
 use Rattle.format.specs.declared.Psbt.{Psbt}

@@ -14,5 +14,6 @@ pub date_example : map date_text (0 ∷ 86399 ∷ 86400 ∷ 951782400 ∷ 170000
     ∷ say "2023-11-14 22:13:20 UTC"
     ∷ say "2106-02-07 06:28:15 UTC"
     ∷ []
-unfolding digit decimal_in decimal leap year_length is_short month_length year_from year_of month_from month_of two_digits ymd_text month_text day_text hour_text date_text
+unfolding digit decimal_in decimal leap year_length is_short month_length year_from year_of month_from month_of two_digits ymd_text month_text day_text
+    hour_text date_text
 date_example = refl

@@ -31,7 +31,8 @@ looks_up = sequence
 
 -- all that a date is made of
 unfoldable pub dates : ℕ → List ℕ
-unfolding digit decimal_in decimal leap year_length is_short month_length year_from year_of month_from month_of two_digits ymd_text month_text day_text hour_text date_text
+unfolding digit decimal_in decimal leap year_length is_short month_length year_from year_of month_from month_of two_digits ymd_text month_text day_text
+    hour_text date_text
 dates = date_text
 
 -- all that the head and the lines of inputs are made of

@@ -39,7 +39,8 @@ answered (tx_out x B) = x
 unfoldable pub accepted_text : List ℕ → List ℕ → List ℕ → Psbt → List ℕ → List ℕ
 accepted_text f P M s B =
     head_line s.inputs s.fallback_locktime ++ (inputs_text (height_asked f P M s) (time_asked f P M s) 0 s.inputs
-    ++ (verdict (lock_decided (view f P M s) s) (answered (unsigned_tx_def (view f P M s) s fresh [] B)) ++ heed_line (lock_decided (view f P M s) s) (heed_of f P M s)))
+    ++ (verdict (lock_decided (view f P M s) s) (answered (unsigned_tx_def (view f P M s) s fresh [] B))
+    ++ heed_line (lock_decided (view f P M s) s) (heed_of f P M s)))
 
 -- the text of a refused file: what the refusal means, and where the parse stopped
 unfoldable pub refused_text : List ℕ → List ℕ → List ℕ → PsbtError → ℕ → ℕ → List ℕ

@@ -13,7 +13,7 @@ invariant-loop file pairs maps psbt m₀ m = Going file pairs maps psbt m
 abbrev decreases-loop : tie.decreases-loop-psbt
 decreases-loop file pairs maps psbt m₀ m = maps_reported psbt - m
 
--- needs: needs, alls
+-- needs: rules, alls
 pub all_fit_spec : {M : Type 1} → statement M
 all_fit_spec =
     tie.close

@@ -4,7 +4,7 @@ use Rattle.all_maps_fit.proofs.Fields.{founds}
 use Rattle.all_maps_fit.proofs.found_field.Statement.{statement}
 use Rattle.all_maps_fit.proofs.found_field.Tie as tie
 
--- needs: needs, founds
+-- needs: rules, founds
 pub found_field_spec : {M : Type 1} → statement M
 found_field_spec =
     tie.close

@@ -11,7 +11,7 @@ invariant-loop file pairs at₀ i₀ left₀ at i left = Noting file pairs i₀ 
 abbrev decreases-loop : tie.decreases-loop-left
 decreases-loop file pairs at₀ i₀ left₀ at i left = left
 
--- needs: needs, notings
+-- needs: rules, notings
 pub input_at_spec : {M : Type 1} → statement M
 input_at_spec =
     tie.close

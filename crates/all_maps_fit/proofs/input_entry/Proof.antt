@@ -4,7 +4,7 @@ use Rattle.all_maps_fit.proofs.Numbers.{numbers}
 use Rattle.all_maps_fit.proofs.input_entry.Statement.{statement}
 use Rattle.all_maps_fit.proofs.input_entry.Tie as tie
 
--- needs: needs, numbers
+-- needs: rules, numbers
 pub input_entry_spec : {M : Type 1} → statement M
 input_entry_spec =
     tie.close

@@ -4,7 +4,7 @@ use Rattle.all_maps_fit.proofs.Inputs.{notes}
 use Rattle.all_maps_fit.proofs.note_input.Statement.{statement}
 use Rattle.all_maps_fit.proofs.note_input.Tie as tie
 
--- needs: needs, notes
+-- needs: rules, notes
 pub note_input_spec : {M : Type 1} → statement M
 note_input_spec =
     tie.close

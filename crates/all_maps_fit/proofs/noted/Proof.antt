@@ -4,7 +4,7 @@ use Rattle.all_maps_fit.proofs.Inputs.{noteds}
 use Rattle.all_maps_fit.proofs.noted.Statement.{statement}
 use Rattle.all_maps_fit.proofs.noted.Tie as tie
 
--- needs: needs, noteds
+-- needs: rules, noteds
 pub noted_spec : {M : Type 1} → statement M
 noted_spec =
     tie.close

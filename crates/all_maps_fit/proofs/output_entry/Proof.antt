@@ -4,7 +4,7 @@ use Rattle.all_maps_fit.proofs.Numbers.{numbers}
 use Rattle.all_maps_fit.proofs.output_entry.Statement.{statement}
 use Rattle.all_maps_fit.proofs.output_entry.Tie as tie
 
--- needs: needs, numbers
+-- needs: rules, numbers
 pub output_entry_spec : {M : Type 1} → statement M
 output_entry_spec =
     tie.close

@@ -4,7 +4,7 @@ use Rattle.all_maps_fit.proofs.Fields.{sizes}
 use Rattle.all_maps_fit.proofs.sized.Statement.{statement}
 use Rattle.all_maps_fit.proofs.sized.Tie as tie
 
--- needs: needs, sizes
+-- needs: rules, sizes
 pub sized_spec : {M : Type 1} → statement M
 sized_spec =
     tie.close

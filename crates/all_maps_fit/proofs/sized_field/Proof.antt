@@ -4,7 +4,7 @@ use Rattle.all_maps_fit.proofs.Fields.{sized_fields}
 use Rattle.all_maps_fit.proofs.sized_field.Statement.{statement}
 use Rattle.all_maps_fit.proofs.sized_field.Tie as tie
 
--- needs: needs, sized-fields
+-- needs: rules, sized_fields
 pub sized_field_spec : {M : Type 1} → statement M
 sized_field_spec =
     tie.close

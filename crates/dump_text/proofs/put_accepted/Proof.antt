@@ -4,7 +4,7 @@ use Rattle.dump_text.proofs.Wholes.{accepted_text_lem}
 use Rattle.dump_text.proofs.put_accepted.Statement.{statement}
 use Rattle.dump_text.proofs.put_accepted.Tie as tie
 
--- needs: needs, accepted-text
+-- needs: rules, accepted_text_lem
 pub put_accepted_spec : {M : Type 1} → statement M
 put_accepted_spec =
     tie.close

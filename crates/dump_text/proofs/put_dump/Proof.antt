@@ -4,7 +4,7 @@ use Rattle.dump_text.proofs.Wholes.{by_length}
 use Rattle.dump_text.proofs.put_dump.Statement.{statement}
 use Rattle.dump_text.proofs.put_dump.Tie as tie
 
--- needs: needs, by_length
+-- needs: rules, by_length
 pub put_dump_spec : {M : Type 1} → statement M
 put_dump_spec =
     tie.close

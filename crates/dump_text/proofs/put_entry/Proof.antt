@@ -4,7 +4,7 @@ use Rattle.dump_text.proofs.Pieces.{entry_line}
 use Rattle.dump_text.proofs.put_entry.Statement.{statement}
 use Rattle.dump_text.proofs.put_entry.Tie as tie
 
--- needs: needs, entry-line
+-- needs: rules, entry_line
 pub put_entry_spec : {M : Type 1} → statement M
 put_entry_spec =
     tie.close

@@ -4,7 +4,7 @@ use Rattle.dump_text.proofs.Pieces.{head_line_lem}
 use Rattle.dump_text.proofs.put_head.Statement.{statement}
 use Rattle.dump_text.proofs.put_head.Tie as tie
 
--- needs: needs, head-line
+-- needs: rules, head_line_lem
 pub put_head_spec : {M : Type 1} → statement M
 put_head_spec =
     tie.close

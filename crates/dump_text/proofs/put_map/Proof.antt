@@ -4,7 +4,7 @@ use Rattle.dump_text.proofs.Walks.{map_text_lem}
 use Rattle.dump_text.proofs.put_map.Statement.{statement}
 use Rattle.dump_text.proofs.put_map.Tie as tie
 
--- needs: needs, map-text
+-- needs: rules, map_text_lem
 pub put_map_spec : {M : Type 1} → statement M
 put_map_spec =
     tie.close

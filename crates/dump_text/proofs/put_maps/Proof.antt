@@ -13,7 +13,7 @@ invariant-loop out₀ at file pairs maps psbt to₀ m₀ out to m = Mapping at o
 abbrev decreases-loop : tie.decreases-loop-psbt
 decreases-loop out₀ at file pairs maps psbt to₀ m₀ out to m = maps_reported psbt - m
 
--- needs: needs, all-maps
+-- needs: rules, all_maps
 pub put_maps_spec : {M : Type 1} → statement M
 put_maps_spec =
     tie.close

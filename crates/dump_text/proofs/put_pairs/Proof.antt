@@ -12,7 +12,7 @@ invariant-loop out₀ at file pairs to₀ i₀ left₀ out to i left = Listing a
 abbrev decreases-loop : tie.decreases-loop-left
 decreases-loop out₀ at file pairs to₀ i₀ left₀ out to i left = left
 
--- needs: needs, lists | entriesOf
+-- needs: rules, lists | entries_of
 pub put_pairs_spec : {M : Type 1} → statement M
 unfolding entries_of
 put_pairs_spec =

@@ -5,7 +5,7 @@ use Rattle.dump_text.proofs.Sizes.{dump_fits}
 use Rattle.dump_text.proofs.put_whole.Statement.{statement}
 use Rattle.dump_text.proofs.put_whole.Tie as tie
 
--- needs: needs, fronts, dump-fits
+-- needs: rules, fronts, dump_fits
 pub put_whole_spec : {M : Type 1} → statement M
 put_whole_spec =
     tie.close (tie.spec (λ c κs. search (rules, fronts, dump_fits)) (λ c. search (rules, fronts, dump_fits)) (λ c. search (rules, fronts, dump_fits)))

@@ -4,7 +4,7 @@ use Rattle.entries.proofs.Tables.{room_tested}
 use Rattle.entries.proofs.has_room.Statement.{statement}
 use Rattle.entries.proofs.has_room.Tie as tie
 
--- needs: needs, room-tested
+-- needs: rules, room_tested
 pub has_room_spec : {M : Type 1} → statement M
 has_room_spec =
     tie.close

@@ -4,7 +4,7 @@ use Rattle.entries.proofs.Tables.{map_count_lem}
 use Rattle.entries.proofs.map_count.Statement.{statement}
 use Rattle.entries.proofs.map_count.Tie as tie
 
--- needs: needs, map-count
+-- needs: rules, map_count_lem
 pub map_count_spec : {M : Type 1} → statement M
 map_count_spec =
     tie.close

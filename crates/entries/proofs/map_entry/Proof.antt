@@ -4,7 +4,7 @@ use Rattle.entries.proofs.Tables.{reads}
 use Rattle.entries.proofs.map_entry.Statement.{statement}
 use Rattle.entries.proofs.map_entry.Tie as tie
 
--- needs: needs, reads
+-- needs: rules, reads
 pub map_entry_spec : {M : Type 1} → statement M
 map_entry_spec =
     tie.close

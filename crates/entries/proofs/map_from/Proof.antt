@@ -5,7 +5,7 @@ use Rattle.entries.proofs.Tables.{word_fits}
 use Rattle.entries.proofs.map_from.Statement.{statement}
 use Rattle.entries.proofs.map_from.Tie as tie
 
--- needs: needs, word_fits | mapFrom
+-- needs: rules, word_fits | map_from
 pub map_from_spec : {M : Type 1} → statement M
 unfolding map_from
 map_from_spec =

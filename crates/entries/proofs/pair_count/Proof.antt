@@ -4,7 +4,7 @@ use Rattle.entries.proofs.Tables.{pair_count_lem}
 use Rattle.entries.proofs.pair_count.Statement.{statement}
 use Rattle.entries.proofs.pair_count.Tie as tie
 
--- needs: needs, pair-count
+-- needs: rules, pair_count_lem
 pub pair_count_spec : {M : Type 1} → statement M
 pair_count_spec =
     tie.close

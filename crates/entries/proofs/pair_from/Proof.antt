@@ -5,7 +5,7 @@ use Rattle.entries.proofs.Tables.{word_fits}
 use Rattle.entries.proofs.pair_from.Statement.{statement}
 use Rattle.entries.proofs.pair_from.Tie as tie
 
--- needs: needs, word_fits | pairFrom
+-- needs: rules, word_fits | pair_from
 pub pair_from_spec : {M : Type 1} → statement M
 unfolding pair_from
 pair_from_spec =

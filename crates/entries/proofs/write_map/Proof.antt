@@ -4,7 +4,7 @@ use Rattle.entries.proofs.Tables.{writes}
 use Rattle.entries.proofs.write_map.Statement.{statement}
 use Rattle.entries.proofs.write_map.Tie as tie
 
--- needs: needs, writes
+-- needs: rules, writes
 pub write_map_spec : {M : Type 1} → statement M
 write_map_spec =
     tie.close

@@ -4,7 +4,7 @@ use Rattle.entries.proofs.Tables.{writes}
 use Rattle.entries.proofs.write_pair.Statement.{statement}
 use Rattle.entries.proofs.write_pair.Tie as tie
 
--- needs: needs, writes
+-- needs: rules, writes
 pub write_pair_spec : {M : Type 1} → statement M
 write_pair_spec =
     tie.close

@@ -4,7 +4,7 @@ use Rattle.export_words.specs.Words.{word}
 use Rattle.export_words.proofs.bit.Statement.{statement}
 use Rattle.export_words.proofs.bit.Tie as tie
 
--- needs: needs | word
+-- needs: rules | word
 pub bit_spec : {M : Type 1} → statement M
 unfolding word
 bit_spec =

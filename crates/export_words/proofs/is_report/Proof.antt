@@ -4,7 +4,7 @@ use Rattle.export_words.proofs.Words.{reported}
 use Rattle.export_words.proofs.is_report.Statement.{statement}
 use Rattle.export_words.proofs.is_report.Tie as tie
 
--- needs: needs, reported
+-- needs: rules, reported
 pub is_report_spec : {M : Type 1} → statement M
 is_report_spec =
     tie.close

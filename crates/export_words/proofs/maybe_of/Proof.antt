@@ -4,7 +4,7 @@ use Rattle.export_words.proofs.Words.{maybes}
 use Rattle.export_words.proofs.maybe_of.Statement.{statement}
 use Rattle.export_words.proofs.maybe_of.Tie as tie
 
--- needs: needs, maybes
+-- needs: rules, maybes
 pub maybe_of_spec : {M : Type 1} → statement M
 maybe_of_spec =
     tie.close

@@ -4,7 +4,7 @@ use Rattle.export_words.proofs.Words.{reports}
 use Rattle.export_words.proofs.psbt_of.Statement.{statement}
 use Rattle.export_words.proofs.psbt_of.Tie as tie
 
--- needs: needs, reports
+-- needs: rules, reports
 pub psbt_of_spec : {M : Type 1} → statement M
 psbt_of_spec =
     tie.close

@@ -4,7 +4,7 @@ use Rattle.export_words.proofs.Words.{puts}
 use Rattle.export_words.proofs.put.Statement.{statement}
 use Rattle.export_words.proofs.put.Tie as tie
 
--- needs: needs, puts
+-- needs: rules, puts
 pub put_spec : {M : Type 1} → statement M
 put_spec =
     tie.close

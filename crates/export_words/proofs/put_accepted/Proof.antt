@@ -4,7 +4,7 @@ use Rattle.export_words.proofs.Answers.{parseds}
 use Rattle.export_words.proofs.put_accepted.Statement.{statement}
 use Rattle.export_words.proofs.put_accepted.Tie as tie
 
--- needs: needs, parseds
+-- needs: rules, parseds
 pub put_accepted_spec : {M : Type 1} → statement M
 put_accepted_spec =
     tie.close

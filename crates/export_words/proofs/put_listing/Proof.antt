@@ -4,7 +4,7 @@ use Rattle.export_words.proofs.Answers.{listings}
 use Rattle.export_words.proofs.put_listing.Statement.{statement}
 use Rattle.export_words.proofs.put_listing.Tie as tie
 
--- needs: needs, listings
+-- needs: rules, listings
 pub put_listing_spec : {M : Type 1} → statement M
 put_listing_spec =
     tie.close

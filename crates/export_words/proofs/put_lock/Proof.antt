@@ -4,7 +4,7 @@ use Rattle.export_words.proofs.Answers.{locks}
 use Rattle.export_words.proofs.put_lock.Statement.{statement}
 use Rattle.export_words.proofs.put_lock.Tie as tie
 
--- needs: needs, locks
+-- needs: rules, locks
 pub put_lock_spec : {M : Type 1} → statement M
 put_lock_spec =
     tie.close

@@ -4,7 +4,7 @@ use Rattle.export_words.proofs.Answers.{lookeds}
 use Rattle.export_words.proofs.put_looked.Statement.{statement}
 use Rattle.export_words.proofs.put_looked.Tie as tie
 
--- needs: needs, lookeds
+-- needs: rules, lookeds
 pub put_looked_spec : {M : Type 1} → statement M
 put_looked_spec =
     tie.close

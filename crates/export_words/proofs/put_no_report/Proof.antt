@@ -4,7 +4,7 @@ use Rattle.export_words.proofs.Answers.{no_reports}
 use Rattle.export_words.proofs.put_no_report.Statement.{statement}
 use Rattle.export_words.proofs.put_no_report.Tie as tie
 
--- needs: needs, no-reports
+-- needs: rules, no_reports
 pub put_no_report_spec : {M : Type 1} → statement M
 put_no_report_spec =
     tie.close

@@ -4,7 +4,7 @@ use Rattle.export_words.proofs.Answers.{nths}
 use Rattle.export_words.proofs.put_nth.Statement.{statement}
 use Rattle.export_words.proofs.put_nth.Tie as tie
 
--- needs: needs, nths
+-- needs: rules, nths
 pub put_nth_spec : {M : Type 1} → statement M
 put_nth_spec =
     tie.close

@@ -4,7 +4,7 @@ use Rattle.export_words.proofs.Answers.{numbereds}
 use Rattle.export_words.proofs.put_numbered.Statement.{statement}
 use Rattle.export_words.proofs.put_numbered.Tie as tie
 
--- needs: needs, numbereds
+-- needs: rules, numbereds
 pub put_numbered_spec : {M : Type 1} → statement M
 put_numbered_spec =
     tie.close

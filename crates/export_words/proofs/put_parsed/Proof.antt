@@ -4,7 +4,7 @@ use Rattle.export_words.proofs.Answers.{parseds}
 use Rattle.export_words.proofs.put_parsed.Statement.{statement}
 use Rattle.export_words.proofs.put_parsed.Tie as tie
 
--- needs: needs, parseds
+-- needs: rules, parseds
 pub put_parsed_spec : {M : Type 1} → statement M
 put_parsed_spec =
     tie.close

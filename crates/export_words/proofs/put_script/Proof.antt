@@ -4,7 +4,7 @@ use Rattle.export_words.proofs.Answers.{scripts}
 use Rattle.export_words.proofs.put_script.Statement.{statement}
 use Rattle.export_words.proofs.put_script.Tie as tie
 
--- needs: needs, scripts
+-- needs: rules, scripts
 pub put_script_spec : {M : Type 1} → statement M
 put_script_spec =
     tie.close

@@ -4,7 +4,7 @@ use Rattle.export_words.proofs.Answers.{sets}
 use Rattle.export_words.proofs.put_set.Statement.{statement}
 use Rattle.export_words.proofs.put_set.Tie as tie
 
--- needs: needs, sets
+-- needs: rules, sets
 pub put_set_spec : {M : Type 1} → statement M
 put_set_spec =
     tie.close

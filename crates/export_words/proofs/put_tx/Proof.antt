@@ -4,7 +4,7 @@ use Rattle.export_words.proofs.Answers.{txs}
 use Rattle.export_words.proofs.put_tx.Statement.{statement}
 use Rattle.export_words.proofs.put_tx.Tie as tie
 
--- needs: needs, txs
+-- needs: rules, txs
 pub put_tx_spec : {M : Type 1} → statement M
 put_tx_spec =
     tie.close

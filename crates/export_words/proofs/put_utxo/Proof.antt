@@ -4,7 +4,7 @@ use Rattle.export_words.proofs.Answers.{utxos}
 use Rattle.export_words.proofs.put_utxo.Statement.{statement}
 use Rattle.export_words.proofs.put_utxo.Tie as tie
 
--- needs: needs, utxos
+-- needs: rules, utxos
 pub put_utxo_spec : {M : Type 1} → statement M
 put_utxo_spec =
     tie.close

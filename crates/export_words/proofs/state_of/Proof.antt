@@ -4,7 +4,7 @@ use Rattle.export_words.specs.Words.{state_of}
 use Rattle.export_words.proofs.state_of.Statement.{statement}
 use Rattle.export_words.proofs.state_of.Tie as tie
 
--- needs: needs | state_of
+-- needs: rules | state_of
 pub state_of_spec : {M : Type 1} → statement M
 unfolding state_of
 state_of_spec =

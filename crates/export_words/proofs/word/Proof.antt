@@ -4,7 +4,7 @@ use Rattle.export_words.proofs.Words.{words}
 use Rattle.export_words.proofs.word.Statement.{statement}
 use Rattle.export_words.proofs.word.Tie as tie
 
--- needs: needs, words
+-- needs: rules, words
 pub word_spec : {M : Type 1} → statement M
 word_spec =
     tie.close

@@ -4,7 +4,7 @@ use Rattle.export_words.proofs.Words.{maybe_words}
 use Rattle.export_words.proofs.word_of.Statement.{statement}
 use Rattle.export_words.proofs.word_of.Tie as tie
 
--- needs: needs, maybe-words
+-- needs: rules, maybe_words
 pub word_of_spec : {M : Type 1} → statement M
 word_of_spec =
     tie.close

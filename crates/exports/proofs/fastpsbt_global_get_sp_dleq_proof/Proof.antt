@@ -4,7 +4,7 @@ use Rattle.exports.proofs.Calls.{asks}
 use Rattle.exports.proofs.fastpsbt_global_get_sp_dleq_proof.Statement.{statement}
 use Rattle.exports.proofs.fastpsbt_global_get_sp_dleq_proof.Tie as tie
 
--- needs: needs, asks
+-- needs: rules, asks
 pub fastpsbt_global_get_sp_dleq_proof_spec : {M : Type 1} → statement M
 fastpsbt_global_get_sp_dleq_proof_spec =
     tie.close

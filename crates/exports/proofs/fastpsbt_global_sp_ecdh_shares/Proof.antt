@@ -4,7 +4,7 @@ use Rattle.exports.proofs.Calls.{asks}
 use Rattle.exports.proofs.fastpsbt_global_sp_ecdh_shares.Statement.{statement}
 use Rattle.exports.proofs.fastpsbt_global_sp_ecdh_shares.Tie as tie
 
--- needs: needs, asks
+-- needs: rules, asks
 pub fastpsbt_global_sp_ecdh_shares_spec : {M : Type 1} → statement M
 fastpsbt_global_sp_ecdh_shares_spec =
     tie.close

@@ -4,7 +4,7 @@ use Rattle.exports.proofs.Calls.{asks}
 use Rattle.exports.proofs.fastpsbt_input_bip32_derivations.Statement.{statement}
 use Rattle.exports.proofs.fastpsbt_input_bip32_derivations.Tie as tie
 
--- needs: needs, asks
+-- needs: rules, asks
 pub fastpsbt_input_bip32_derivations_spec : {M : Type 1} → statement M
 fastpsbt_input_bip32_derivations_spec =
     tie.close

@@ -4,7 +4,7 @@ use Rattle.exports.proofs.Calls.{asks}
 use Rattle.exports.proofs.fastpsbt_input_get_musig2_partial_sig.Statement.{statement}
 use Rattle.exports.proofs.fastpsbt_input_get_musig2_partial_sig.Tie as tie
 
--- needs: needs, asks
+-- needs: rules, asks
 pub fastpsbt_input_get_musig2_partial_sig_spec : {M : Type 1} → statement M
 fastpsbt_input_get_musig2_partial_sig_spec =
     tie.close

@@ -4,7 +4,7 @@ use Rattle.exports.proofs.Calls.{asks}
 use Rattle.exports.proofs.fastpsbt_input_sighash_type.Statement.{statement}
 use Rattle.exports.proofs.fastpsbt_input_sighash_type.Tie as tie
 
--- needs: needs, asks
+-- needs: rules, asks
 pub fastpsbt_input_sighash_type_spec : {M : Type 1} → statement M
 fastpsbt_input_sighash_type_spec =
     tie.close

@@ -4,7 +4,7 @@ use Rattle.exports.proofs.Calls.{asks}
 use Rattle.exports.proofs.fastpsbt_input_sp_dleq_proofs.Statement.{statement}
 use Rattle.exports.proofs.fastpsbt_input_sp_dleq_proofs.Tie as tie
 
--- needs: needs, asks
+-- needs: rules, asks
 pub fastpsbt_input_sp_dleq_proofs_spec : {M : Type 1} → statement M
 fastpsbt_input_sp_dleq_proofs_spec =
     tie.close

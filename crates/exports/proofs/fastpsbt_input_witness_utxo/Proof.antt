@@ -4,7 +4,7 @@ use Rattle.exports.proofs.Calls.{asks}
 use Rattle.exports.proofs.fastpsbt_input_witness_utxo.Statement.{statement}
 use Rattle.exports.proofs.fastpsbt_input_witness_utxo.Tie as tie
 
--- needs: needs, asks
+-- needs: rules, asks
 pub fastpsbt_input_witness_utxo_spec : {M : Type 1} → statement M
 fastpsbt_input_witness_utxo_spec =
     tie.close

@@ -4,7 +4,7 @@ use Rattle.exports.proofs.Calls.{asks}
 use Rattle.exports.proofs.fastpsbt_lock_decided.Statement.{statement}
 use Rattle.exports.proofs.fastpsbt_lock_decided.Tie as tie
 
--- needs: needs, asks
+-- needs: rules, asks
 pub fastpsbt_lock_decided_spec : {M : Type 1} → statement M
 fastpsbt_lock_decided_spec =
     tie.close

@@ -4,7 +4,7 @@ use Rattle.exports.proofs.Calls.{asks}
 use Rattle.exports.proofs.fastpsbt_map_get.Statement.{statement}
 use Rattle.exports.proofs.fastpsbt_map_get.Tie as tie
 
--- needs: needs, asks
+-- needs: rules, asks
 pub fastpsbt_map_get_spec : {M : Type 1} → statement M
 fastpsbt_map_get_spec =
     tie.close

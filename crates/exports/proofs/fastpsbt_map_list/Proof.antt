@@ -4,7 +4,7 @@ use Rattle.exports.proofs.Calls.{asks}
 use Rattle.exports.proofs.fastpsbt_map_list.Statement.{statement}
 use Rattle.exports.proofs.fastpsbt_map_list.Tie as tie
 
--- needs: needs, asks
+-- needs: rules, asks
 pub fastpsbt_map_list_spec : {M : Type 1} → statement M
 fastpsbt_map_list_spec =
     tie.close

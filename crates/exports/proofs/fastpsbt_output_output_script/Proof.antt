@@ -4,7 +4,7 @@ use Rattle.exports.proofs.Calls.{asks_in}
 use Rattle.exports.proofs.fastpsbt_output_output_script.Statement.{statement}
 use Rattle.exports.proofs.fastpsbt_output_output_script.Tie as tie
 
--- needs: needs, asks-in
+-- needs: rules, asks_in
 pub fastpsbt_output_output_script_spec : {M : Type 1} → statement M
 fastpsbt_output_output_script_spec =
     tie.close

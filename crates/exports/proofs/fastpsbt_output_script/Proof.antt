@@ -4,7 +4,7 @@ use Rattle.exports.proofs.Calls.{asks}
 use Rattle.exports.proofs.fastpsbt_output_script.Statement.{statement}
 use Rattle.exports.proofs.fastpsbt_output_script.Tie as tie
 
--- needs: needs, asks
+-- needs: rules, asks
 pub fastpsbt_output_script_spec : {M : Type 1} → statement M
 fastpsbt_output_script_spec =
     tie.close

@@ -4,7 +4,7 @@ use Rattle.exports.proofs.Calls.{asks}
 use Rattle.exports.proofs.fastpsbt_output_sp_v0_info.Statement.{statement}
 use Rattle.exports.proofs.fastpsbt_output_sp_v0_info.Tie as tie
 
--- needs: needs, asks
+-- needs: rules, asks
 pub fastpsbt_output_sp_v0_info_spec : {M : Type 1} → statement M
 fastpsbt_output_sp_v0_info_spec =
     tie.close

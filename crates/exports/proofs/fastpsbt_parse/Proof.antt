@@ -4,7 +4,7 @@ use Rattle.exports.proofs.Calls.{parses}
 use Rattle.exports.proofs.fastpsbt_parse.Statement.{statement}
 use Rattle.exports.proofs.fastpsbt_parse.Tie as tie
 
--- needs: needs, parses
+-- needs: rules, parses
 pub fastpsbt_parse_spec : {M : Type 1} → statement M
 fastpsbt_parse_spec =
     tie.close

@@ -4,7 +4,7 @@ use Rattle.exports.proofs.Calls.{outs}
 use Rattle.exports.proofs.fastpsbt_set_sp_output_scripts.Statement.{statement}
 use Rattle.exports.proofs.fastpsbt_set_sp_output_scripts.Tie as tie
 
--- needs: needs, outs
+-- needs: rules, outs
 pub fastpsbt_set_sp_output_scripts_spec : {M : Type 1} → statement M
 fastpsbt_set_sp_output_scripts_spec =
     tie.close

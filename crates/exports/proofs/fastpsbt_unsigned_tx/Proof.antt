@@ -4,7 +4,7 @@ use Rattle.exports.proofs.Calls.{outs}
 use Rattle.exports.proofs.fastpsbt_unsigned_tx.Statement.{statement}
 use Rattle.exports.proofs.fastpsbt_unsigned_tx.Tie as tie
 
--- needs: needs, outs
+-- needs: rules, outs
 pub fastpsbt_unsigned_tx_spec : {M : Type 1} → statement M
 fastpsbt_unsigned_tx_spec =
     tie.close

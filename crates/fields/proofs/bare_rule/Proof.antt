@@ -4,7 +4,7 @@ use Rattle.fields.proofs.Fronts.{bares}
 use Rattle.fields.proofs.bare_rule.Statement.{statement}
 use Rattle.fields.proofs.bare_rule.Tie as tie
 
--- needs: needs, bares
+-- needs: rules, bares
 pub bare_rule_spec : {M : Type 1} → statement M
 bare_rule_spec =
     tie.close

@@ -4,7 +4,7 @@ use Rattle.fields.proofs.Rows.{row}
 use Rattle.fields.proofs.both_fit.Statement.{statement}
 use Rattle.fields.proofs.both_fit.Tie as tie
 
--- needs: needs, row
+-- needs: rules, row
 pub both_fit_spec : {M : Type 1} → statement M
 both_fit_spec =
     tie.close

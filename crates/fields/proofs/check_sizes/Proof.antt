@@ -5,7 +5,7 @@ use Rattle.fields.proofs.Types.{free_types}
 use Rattle.fields.proofs.check_sizes.Statement.{statement}
 use Rattle.fields.proofs.check_sizes.Tie as tie
 
--- needs: needs, free-types | sizes
+-- needs: rules, free_types | sizes
 pub check_sizes_spec : {M : Type 1} → statement M
 unfolding sizes
 check_sizes_spec =

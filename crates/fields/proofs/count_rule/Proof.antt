@@ -4,7 +4,7 @@ use Rattle.fields.proofs.Fronts.{counts}
 use Rattle.fields.proofs.count_rule.Statement.{statement}
 use Rattle.fields.proofs.count_rule.Tie as tie
 
--- needs: needs, counts
+-- needs: rules, counts
 pub count_rule_spec : {M : Type 1} → statement M
 count_rule_spec =
     tie.close

@@ -4,7 +4,7 @@ use Rattle.fields.proofs.Fronts.{fronts}
 use Rattle.fields.proofs.field_rule.Statement.{statement}
 use Rattle.fields.proofs.field_rule.Tie as tie
 
--- needs: needs, fronts
+-- needs: rules, fronts
 pub field_rule_spec : {M : Type 1} → statement M
 field_rule_spec =
     tie.close

@@ -12,7 +12,7 @@ invariant-loop t rs i₀ i = TypeFrom rs t i
 abbrev decreases-loop : tie.decreases-loop-i
 decreases-loop t rs i₀ i = length rs - i
 
--- needs: needs, types
+-- needs: rules, types
 pub has_type_spec : {M : Type 1} → statement M
 has_type_spec =
     tie.close

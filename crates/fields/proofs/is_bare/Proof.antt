@@ -5,7 +5,7 @@ use Rattle.fields.specs.Fronts.{is_bare}
 use Rattle.fields.proofs.is_bare.Statement.{statement}
 use Rattle.fields.proofs.is_bare.Tie as tie
 
--- needs: needs, tests | is_bare
+-- needs: rules, tests | is_bare
 pub is_bare_spec : {M : Type 1} → statement M
 unfolding is_bare
 is_bare_spec =

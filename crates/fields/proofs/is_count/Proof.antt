@@ -5,7 +5,7 @@ use Rattle.fields.specs.Fronts.{is_count}
 use Rattle.fields.proofs.is_count.Statement.{statement}
 use Rattle.fields.proofs.is_count.Tie as tie
 
--- needs: needs, tests | isCount
+-- needs: rules, tests | is_count
 pub is_count_spec : {M : Type 1} → statement M
 unfolding is_count
 is_count_spec =

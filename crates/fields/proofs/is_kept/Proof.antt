@@ -4,7 +4,7 @@ use Rattle.fields.proofs.Rows.{row}
 use Rattle.fields.proofs.is_kept.Statement.{statement}
 use Rattle.fields.proofs.is_kept.Tie as tie
 
--- needs: needs, row
+-- needs: rules, row
 pub is_kept_spec : {M : Type 1} → statement M
 is_kept_spec =
     tie.close

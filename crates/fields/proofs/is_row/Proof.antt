@@ -5,7 +5,7 @@ use Rattle.format.proofs.Tests.{tests}
 use Rattle.fields.proofs.is_row.Statement.{statement}
 use Rattle.fields.proofs.is_row.Tie as tie
 
--- needs: needs, tests | is_row
+-- needs: rules, tests | is_row
 pub is_row_spec : {M : Type 1} → statement M
 unfolding is_row
 is_row_spec =

@@ -4,7 +4,7 @@ use Rattle.fields.proofs.Rows.{row}
 use Rattle.fields.proofs.row_rule.Statement.{statement}
 use Rattle.fields.proofs.row_rule.Tie as tie
 
--- needs: needs, row
+-- needs: rules, row
 pub row_rule_spec : {M : Type 1} → statement M
 row_rule_spec =
     tie.close

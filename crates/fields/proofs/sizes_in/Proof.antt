@@ -12,7 +12,7 @@ invariant-loop k t n m rs i₀ i = From rs k t n m i
 abbrev decreases-loop : tie.decreases-loop-i
 decreases-loop k t n m rs i₀ i = length rs - i
 
--- needs: needs, rows
+-- needs: rules, rows
 pub sizes_in_spec : {M : Type 1} → statement M
 sizes_in_spec =
     tie.close

@@ -5,7 +5,7 @@ use Rattle.format.proofs.Tests.{tests}
 use Rattle.fields.proofs.value_fits.Statement.{statement}
 use Rattle.fields.proofs.value_fits.Tie as tie
 
--- needs: needs, tests | valueFits
+-- needs: rules, tests | value_fits
 pub value_fits_spec : {M : Type 1} → statement M
 unfolding value_fits
 value_fits_spec =

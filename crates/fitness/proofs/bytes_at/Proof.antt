@@ -4,7 +4,7 @@ use Rattle.fitness.proofs.Parts.{parts}
 use Rattle.fitness.proofs.bytes_at.Statement.{statement}
 use Rattle.fitness.proofs.bytes_at.Tie as tie
 
--- needs: needs, parts
+-- needs: rules, parts
 pub bytes_at_spec : {M : Type 1} → statement M
 bytes_at_spec =
     tie.close

@@ -12,7 +12,7 @@ invariant-loop file pairs i₀ unseen₀ last₀ i unseen last = Fitting file pa
 abbrev decreases-loop : tie.decreases-loop-unseen
 decreases-loop file pairs i₀ unseen₀ last₀ i unseen last = unseen
 
--- needs: needs, fittings | entriesOf
+-- needs: rules, fittings | entries_of
 pub fit_all_spec : {M : Type 1} → statement M
 unfolding entries_of
 fit_all_spec =

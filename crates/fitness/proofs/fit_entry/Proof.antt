@@ -4,7 +4,7 @@ use Rattle.fitness.proofs.Maps.{named_entries}
 use Rattle.fitness.proofs.fit_entry.Statement.{statement}
 use Rattle.fitness.proofs.fit_entry.Tie as tie
 
--- needs: needs, named-entries
+-- needs: rules, named_entries
 pub fit_entry_spec : {M : Type 1} → statement M
 fit_entry_spec =
     tie.close

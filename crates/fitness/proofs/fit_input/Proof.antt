@@ -4,7 +4,7 @@ use Rattle.fitness.proofs.Maps.{by_numbers}
 use Rattle.fitness.proofs.fit_input.Statement.{statement}
 use Rattle.fitness.proofs.fit_input.Tie as tie
 
--- needs: needs, by-numbers
+-- needs: rules, by_numbers
 pub fit_input_spec : {M : Type 1} → statement M
 fit_input_spec =
     tie.close

@@ -4,7 +4,7 @@ use Rattle.fitness.proofs.Maps.{map_numbers}
 use Rattle.fitness.proofs.fit_map.Statement.{statement}
 use Rattle.fitness.proofs.fit_map.Tie as tie
 
--- needs: needs, map-numbers
+-- needs: rules, map_numbers
 pub fit_map_spec : {M : Type 1} → statement M
 fit_map_spec =
     tie.close

@@ -4,7 +4,7 @@ use Rattle.fitness.proofs.Parts.{ones}
 use Rattle.fitness.proofs.fit_one.Statement.{statement}
 use Rattle.fitness.proofs.fit_one.Tie as tie
 
--- needs: needs, ones
+-- needs: rules, ones
 pub fit_one_spec : {M : Type 1} → statement M
 fit_one_spec =
     tie.close

@@ -4,7 +4,7 @@ use Rattle.fitness.proofs.Maps.{by_numbers}
 use Rattle.fitness.proofs.fit_output.Statement.{statement}
 use Rattle.fitness.proofs.fit_output.Tie as tie
 
--- needs: needs, by-numbers
+-- needs: rules, by_numbers
 pub fit_output_spec : {M : Type 1} → statement M
 fit_output_spec =
     tie.close

@@ -4,7 +4,7 @@ use Rattle.fitness.proofs.Parts.{inside}
 use Rattle.fitness.proofs.in_file.Statement.{statement}
 use Rattle.fitness.proofs.in_file.Tie as tie
 
--- needs: needs, inside
+-- needs: rules, inside
 pub in_file_spec : {M : Type 1} → statement M
 in_file_spec =
     tie.close

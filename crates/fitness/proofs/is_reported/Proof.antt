@@ -4,7 +4,7 @@ use Rattle.fitness.proofs.Maps.{reported}
 use Rattle.fitness.proofs.is_reported.Statement.{statement}
 use Rattle.fitness.proofs.is_reported.Tie as tie
 
--- needs: needs, reported
+-- needs: rules, reported
 pub is_reported_spec : {M : Type 1} → statement M
 is_reported_spec =
     tie.close

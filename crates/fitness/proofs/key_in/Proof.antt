@@ -5,7 +5,7 @@ use Rattle.fitness.specs.Parts.{bytes_at}
 use Rattle.fitness.proofs.key_in.Statement.{statement}
 use Rattle.fitness.proofs.key_in.Tie as tie
 
--- needs: needs | keyIn bytes_at
+-- needs: rules | key_in_def bytes_at
 pub key_in_spec : {M : Type 1} → statement M
 unfolding key_in_def bytes_at
 key_in_spec =

@@ -4,7 +4,7 @@ use Rattle.fitness.proofs.Parts.{lying}
 use Rattle.fitness.proofs.lies.Statement.{statement}
 use Rattle.fitness.proofs.lies.Tie as tie
 
--- needs: needs, lying
+-- needs: rules, lying
 pub lies_spec : {M : Type 1} → statement M
 lies_spec =
     tie.close

@@ -5,7 +5,7 @@ use Rattle.fitness.specs.Fits.{not_listed}
 use Rattle.fitness.proofs.not_listed.Statement.{statement}
 use Rattle.fitness.proofs.not_listed.Tie as tie
 
--- needs: needs, tests | notListed
+-- needs: rules, tests | not_listed
 pub not_listed_spec : {M : Type 1} → statement M
 unfolding not_listed
 not_listed_spec =

@@ -5,7 +5,7 @@ use Rattle.fitness.specs.Parts.{bytes_at}
 use Rattle.fitness.proofs.value_in.Statement.{statement}
 use Rattle.fitness.proofs.value_in.Tie as tie
 
--- needs: needs | valueIn bytes_at
+-- needs: rules | value_in_def bytes_at
 pub value_in_spec : {M : Type 1} → statement M
 unfolding value_in_def bytes_at
 value_in_spec =

@@ -11,7 +11,7 @@ invariant-loop file pairs maps psbt i₀ i = Heeding file pairs maps psbt i
 abbrev decreases-loop : tie.decreases-loop-i
 decreases-loop file pairs maps psbt i₀ i = psbt.inputs - i
 
--- needs: needs, heeding
+-- needs: rules, heeding
 pub heed_of_spec : {M : Type 1} → statement M
 heed_of_spec =
     tie.close

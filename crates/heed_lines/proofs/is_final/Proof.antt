@@ -5,7 +5,7 @@ use Rattle.heed_lines.proofs.Laws.{final_by}
 use Rattle.heed_lines.proofs.is_final.Statement.{statement}
 use Rattle.heed_lines.proofs.is_final.Tie as tie
 
--- needs: needs, final-by | isFinal
+-- needs: rules, final_by | is_final
 pub is_final_spec : {M : Type 1} → statement M
 unfolding is_final
 is_final_spec =

@@ -6,7 +6,7 @@ use Rattle.heed_lines.proofs.Laws.{number_by}
 use Rattle.heed_lines.proofs.number_decided.Statement.{statement}
 use Rattle.heed_lines.proofs.number_decided.Tie as tie
 
--- needs: needs, number_by | lockOf numberDecided
+-- needs: rules, number_by | lock_of number_decided
 pub number_decided_spec : {M : Type 1} → statement M
 unfolding lock_of number_decided
 number_decided_spec =

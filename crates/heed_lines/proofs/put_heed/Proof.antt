@@ -4,7 +4,7 @@ use Rattle.heed_lines.proofs.Laws.{heed_lines}
 use Rattle.heed_lines.proofs.put_heed.Statement.{statement}
 use Rattle.heed_lines.proofs.put_heed.Tie as tie
 
--- needs: needs, heed-lines
+-- needs: rules, heed_lines
 pub put_heed_spec : {M : Type 1} → statement M
 put_heed_spec =
     tie.close

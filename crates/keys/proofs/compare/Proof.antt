@@ -4,7 +4,7 @@ use Rattle.keys.proofs.Orders.{firsts}
 use Rattle.keys.proofs.compare.Statement.{statement}
 use Rattle.keys.proofs.compare.Tie as tie
 
--- needs: needs, firsts
+-- needs: rules, firsts
 pub compare_spec : {M : Type 1} → statement M
 compare_spec =
     tie.close

@@ -13,7 +13,7 @@ invariant-loop a b i₀ i = On a b i
 abbrev decreases-loop : tie.decreases-loop-i
 decreases-loop a b i₀ i = length a - i
 
--- needs: needs, orders
+-- needs: rules, orders
 pub compare_blocks_spec : {M : Type 1} → statement M
 compare_blocks_spec =
     tie.close

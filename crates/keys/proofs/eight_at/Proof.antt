@@ -4,7 +4,7 @@ use Rattle.keys.proofs.Blocks.{numbers}
 use Rattle.keys.proofs.eight_at.Statement.{statement}
 use Rattle.keys.proofs.eight_at.Tie as tie
 
--- needs: needs, numbers
+-- needs: rules, numbers
 pub eight_at_spec : {M : Type 1} → statement M
 eight_at_spec =
     tie.close

@@ -4,7 +4,7 @@ use Rattle.keys.proofs.Blocks.{numbers}
 use Rattle.keys.proofs.four_at.Statement.{statement}
 use Rattle.keys.proofs.four_at.Tie as tie
 
--- needs: needs, numbers
+-- needs: rules, numbers
 pub four_at_spec : {M : Type 1} → statement M
 four_at_spec =
     tie.close

@@ -5,7 +5,7 @@ use Rattle.keys.proofs.Orders.{below_by}
 use Rattle.keys.proofs.is_below.Statement.{statement}
 use Rattle.keys.proofs.is_below.Tie as tie
 
--- needs: needs, below_by | isBelow
+-- needs: rules, below_by | is_below_def
 pub is_below_spec : {M : Type 1} → statement M
 unfolding is_below_def
 is_below_spec =

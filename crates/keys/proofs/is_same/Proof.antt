@@ -5,7 +5,7 @@ use Rattle.keys.proofs.Orders.{same_by}
 use Rattle.keys.proofs.is_same.Statement.{statement}
 use Rattle.keys.proofs.is_same.Tie as tie
 
--- needs: needs, same_by | isSame
+-- needs: rules, same_by | is_same_def
 pub is_same_spec : {M : Type 1} → statement M
 unfolding is_same_def
 is_same_spec =

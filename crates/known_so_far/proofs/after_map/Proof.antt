@@ -4,7 +4,7 @@ use Rattle.known_so_far.proofs.Ends.{afters}
 use Rattle.known_so_far.proofs.after_map.Statement.{statement}
 use Rattle.known_so_far.proofs.after_map.Tie as tie
 
--- needs: needs, afters
+-- needs: rules, afters
 pub after_map_spec : {M : Type 1} → statement M
 after_map_spec =
     tie.close

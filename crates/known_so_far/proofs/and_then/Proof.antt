@@ -4,7 +4,7 @@ use Rattle.known_so_far.proofs.Ends.{thens}
 use Rattle.known_so_far.proofs.and_then.Statement.{statement}
 use Rattle.known_so_far.proofs.and_then.Tie as tie
 
--- needs: needs, thens
+-- needs: rules, thens
 pub and_then_spec : {M : Type 1} → statement M
 and_then_spec =
     tie.close

@@ -4,7 +4,7 @@ use Rattle.known_so_far.proofs.Parts.{globals}
 use Rattle.known_so_far.proofs.check_globals.Statement.{statement}
 use Rattle.known_so_far.proofs.check_globals.Tie as tie
 
--- needs: needs, globals
+-- needs: rules, globals
 pub check_globals_spec : {M : Type 1} → statement M
 check_globals_spec =
     tie.close

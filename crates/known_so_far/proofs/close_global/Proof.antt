@@ -4,7 +4,7 @@ use Rattle.known_so_far.proofs.Ends.{close_globals}
 use Rattle.known_so_far.proofs.close_global.Statement.{statement}
 use Rattle.known_so_far.proofs.close_global.Tie as tie
 
--- needs: needs, closeGlobals
+-- needs: rules, close_globals
 pub close_global_spec : {M : Type 1} → statement M
 close_global_spec =
     tie.close

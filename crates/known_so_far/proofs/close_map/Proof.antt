@@ -4,7 +4,7 @@ use Rattle.known_so_far.proofs.Ends.{closes}
 use Rattle.known_so_far.proofs.close_map.Statement.{statement}
 use Rattle.known_so_far.proofs.close_map.Tie as tie
 
--- needs: needs, closes
+-- needs: rules, closes
 pub close_map_spec : {M : Type 1} → statement M
 close_map_spec =
     tie.close

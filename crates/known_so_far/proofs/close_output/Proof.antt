@@ -4,7 +4,7 @@ use Rattle.known_so_far.proofs.Ends.{close_seen}
 use Rattle.known_so_far.proofs.close_output.Statement.{statement}
 use Rattle.known_so_far.proofs.close_output.Tie as tie
 
--- needs: needs, close-seen
+-- needs: rules, close_seen
 pub close_output_spec : {M : Type 1} → statement M
 close_output_spec =
     tie.close

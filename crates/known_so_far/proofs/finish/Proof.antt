@@ -4,7 +4,7 @@ use Rattle.known_so_far.proofs.Ends.{finishes}
 use Rattle.known_so_far.proofs.finish.Statement.{statement}
 use Rattle.known_so_far.proofs.finish.Tie as tie
 
--- needs: needs, finishes
+-- needs: rules, finishes
 pub finish_spec : {M : Type 1} → statement M
 finish_spec =
     tie.close

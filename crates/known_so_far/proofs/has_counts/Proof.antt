@@ -4,7 +4,7 @@ use Rattle.known_so_far.proofs.Parts.{all_theres}
 use Rattle.known_so_far.proofs.has_counts.Statement.{statement}
 use Rattle.known_so_far.proofs.has_counts.Tie as tie
 
--- needs: needs, allTheres
+-- needs: rules, all_theres
 pub has_counts_spec : {M : Type 1} → statement M
 has_counts_spec =
     tie.close

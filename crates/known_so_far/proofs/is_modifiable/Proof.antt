@@ -4,7 +4,7 @@ use Rattle.known_so_far.proofs.Parts.{low_flags}
 use Rattle.known_so_far.proofs.is_modifiable.Statement.{statement}
 use Rattle.known_so_far.proofs.is_modifiable.Tie as tie
 
--- needs: needs, low-flags
+-- needs: rules, low_flags
 pub is_modifiable_spec : {M : Type 1} → statement M
 is_modifiable_spec =
     tie.close

@@ -4,7 +4,7 @@ use Rattle.known_so_far.proofs.Parts.{maybes}
 use Rattle.known_so_far.proofs.is_there.Statement.{statement}
 use Rattle.known_so_far.proofs.is_there.Tie as tie
 
--- needs: needs, maybes
+-- needs: rules, maybes
 pub is_there_spec : {M : Type 1} → statement M
 is_there_spec =
     tie.close

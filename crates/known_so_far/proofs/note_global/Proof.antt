@@ -4,7 +4,7 @@ use Rattle.known_so_far.proofs.Parts.{note_fields}
 use Rattle.known_so_far.proofs.note_global.Statement.{statement}
 use Rattle.known_so_far.proofs.note_global.Tie as tie
 
--- needs: needs, note-fields
+-- needs: rules, note_fields
 pub note_global_spec : {M : Type 1} → statement M
 note_global_spec =
     tie.close

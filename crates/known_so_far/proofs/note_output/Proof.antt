@@ -4,7 +4,7 @@ use Rattle.known_so_far.proofs.Parts.{note_seen}
 use Rattle.known_so_far.proofs.note_output.Statement.{statement}
 use Rattle.known_so_far.proofs.note_output.Tie as tie
 
--- needs: needs, note-seen
+-- needs: rules, note_seen
 pub note_output_spec : {M : Type 1} → statement M
 note_output_spec =
     tie.close

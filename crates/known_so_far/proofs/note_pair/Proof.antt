@@ -4,7 +4,7 @@ use Rattle.known_so_far.proofs.Parts.{pair_notes}
 use Rattle.known_so_far.proofs.note_pair.Statement.{statement}
 use Rattle.known_so_far.proofs.note_pair.Tie as tie
 
--- needs: needs, pairNotes
+-- needs: rules, pair_notes
 pub note_pair_spec : {M : Type 1} → statement M
 note_pair_spec =
     tie.close

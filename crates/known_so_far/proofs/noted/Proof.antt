@@ -4,7 +4,7 @@ use Rattle.known_so_far.proofs.Parts.{notes}
 use Rattle.known_so_far.proofs.noted.Statement.{statement}
 use Rattle.known_so_far.proofs.noted.Tie as tie
 
--- needs: needs, notes
+-- needs: rules, notes
 pub noted_spec : {M : Type 1} → statement M
 noted_spec =
     tie.close

@@ -4,7 +4,7 @@ use Rattle.known_so_far.proofs.Parts.{notes}
 use Rattle.known_so_far.proofs.noted_count.Statement.{statement}
 use Rattle.known_so_far.proofs.noted_count.Tie as tie
 
--- needs: needs, notes
+-- needs: rules, notes
 pub noted_count_spec : {M : Type 1} → statement M
 noted_count_spec =
     tie.close

@@ -4,7 +4,7 @@ use Rattle.known_so_far.proofs.Parts.{notes}
 use Rattle.known_so_far.proofs.noted_there.Statement.{statement}
 use Rattle.known_so_far.proofs.noted_there.Tie as tie
 
--- needs: needs, notes
+-- needs: rules, notes
 pub noted_there_spec : {M : Type 1} → statement M
 noted_there_spec =
     tie.close

@@ -4,7 +4,7 @@ use Rattle.known_so_far.proofs.Parts.{report}
 use Rattle.known_so_far.proofs.psbt_of.Statement.{statement}
 use Rattle.known_so_far.proofs.psbt_of.Tie as tie
 
--- needs: needs, report
+-- needs: rules, report
 pub psbt_of_spec : {M : Type 1} → statement M
 psbt_of_spec =
     tie.close

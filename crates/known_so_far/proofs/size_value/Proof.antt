@@ -4,7 +4,7 @@ use Rattle.known_so_far.proofs.Parts.{sizes_of}
 use Rattle.known_so_far.proofs.size_value.Statement.{statement}
 use Rattle.known_so_far.proofs.size_value.Tie as tie
 
--- needs: needs, sizesOf
+-- needs: rules, sizes_of
 pub size_value_spec : {M : Type 1} → statement M
 size_value_spec =
     tie.close

@@ -4,7 +4,7 @@ use Rattle.known_so_far.proofs.Ends.{starts}
 use Rattle.known_so_far.proofs.start_map.Statement.{statement}
 use Rattle.known_so_far.proofs.start_map.Tie as tie
 
--- needs: needs, starts
+-- needs: rules, starts
 pub start_map_spec : {M : Type 1} → statement M
 start_map_spec =
     tie.close

@@ -4,7 +4,7 @@ use Rattle.known_so_far.proofs.Parts.{outputs}
 use Rattle.known_so_far.proofs.validate_silent_payment_output.Statement.{statement}
 use Rattle.known_so_far.proofs.validate_silent_payment_output.Tie as tie
 
--- needs: needs, outputs
+-- needs: rules, outputs
 pub validate_silent_payment_output_spec : {M : Type 1} → statement M
 validate_silent_payment_output_spec =
     tie.close

@@ -12,7 +12,7 @@ invariant-loop file pairs maps psbt asks₀ i₀ asks i = Walking file pairs map
 abbrev decreases-loop : tie.decreases-loop-i
 decreases-loop file pairs maps psbt asks₀ i₀ asks i = psbt.inputs - i
 
--- needs: needs, walks
+-- needs: rules, walks
 pub all_asks_spec : {M : Type 1} → statement M
 all_asks_spec =
     tie.close

@@ -4,7 +4,7 @@ use Rattle.lock.proofs.Wishes.{mores}
 use Rattle.lock.proofs.ask_more.Statement.{statement}
 use Rattle.lock.proofs.ask_more.Tie as tie
 
--- needs: needs, mores
+-- needs: rules, mores
 pub ask_more_spec : {M : Type 1} → statement M
 ask_more_spec =
     tie.close

@@ -4,7 +4,7 @@ use Rattle.lock.proofs.Locks.{kinds}
 use Rattle.lock.proofs.decide_kinds.Statement.{statement}
 use Rattle.lock.proofs.decide_kinds.Tie as tie
 
--- needs: needs, kinds
+-- needs: rules, kinds
 pub decide_kinds_spec : {M : Type 1} → statement M
 decide_kinds_spec =
     tie.close

@@ -4,7 +4,7 @@ use Rattle.lock.proofs.Wishes.{faults}
 use Rattle.lock.proofs.fault_at.Statement.{statement}
 use Rattle.lock.proofs.fault_at.Tie as tie
 
--- needs: needs, faults
+-- needs: rules, faults
 pub fault_at_spec : {M : Type 1} → statement M
 fault_at_spec =
     tie.close

@@ -5,7 +5,7 @@ use Rattle.lock.proofs.Wishes.{wrong_by}
 use Rattle.lock.proofs.is_wrong.Statement.{statement}
 use Rattle.lock.proofs.is_wrong.Tie as tie
 
--- needs: needs, wrong-by | isWrong
+-- needs: rules, wrong_by | is_wrong
 pub is_wrong_spec : {M : Type 1} → statement M
 unfolding is_wrong
 is_wrong_spec =

@@ -4,7 +4,7 @@ use Rattle.lock.proofs.Locks.{calls}
 use Rattle.lock.proofs.lock_decided.Statement.{statement}
 use Rattle.lock.proofs.lock_decided.Tie as tie
 
--- needs: needs, calls
+-- needs: rules, calls
 pub lock_decided_spec : {M : Type 1} → statement M
 lock_decided_spec =
     tie.close

@@ -6,7 +6,7 @@ use Rattle.lock.proofs.Locks.{locked_by_lem}
 use Rattle.lock.proofs.lock_of.Statement.{statement}
 use Rattle.lock.proofs.lock_of.Tie as tie
 
--- needs: needs, locked-by | lockedBy lockOf
+-- needs: rules, locked_by_lem | locked_by lock_of
 pub lock_of_spec : {M : Type 1} → statement M
 unfolding locked_by lock_of
 lock_of_spec =

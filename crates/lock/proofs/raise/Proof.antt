@@ -4,7 +4,7 @@ use Rattle.lock.proofs.Wishes.{raises}
 use Rattle.lock.proofs.raise.Statement.{statement}
 use Rattle.lock.proofs.raise.Tie as tie
 
--- needs: needs, raises
+-- needs: rules, raises
 pub raise_spec : {M : Type 1} → statement M
 raise_spec =
     tie.close

@@ -4,7 +4,7 @@ use Rattle.lock.proofs.Wishes.{see_is}
 use Rattle.lock.proofs.see.Statement.{statement}
 use Rattle.lock.proofs.see.Tie as tie
 
--- needs: needs, see-is
+-- needs: rules, see_is
 pub see_spec : {M : Type 1} → statement M
 see_spec =
     tie.close

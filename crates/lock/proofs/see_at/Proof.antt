@@ -4,7 +4,7 @@ use Rattle.lock.proofs.Wishes.{see_at}
 use Rattle.lock.proofs.see_at.Statement.{statement}
 use Rattle.lock.proofs.see_at.Tie as tie
 
--- needs: needs, see-at
+-- needs: rules, see_at
 pub see_at_spec : {M : Type 1} → statement M
 see_at_spec =
     tie.close

@@ -4,7 +4,7 @@ use Rattle.lock.proofs.Wishes.{sees}
 use Rattle.lock.proofs.see_input.Statement.{statement}
 use Rattle.lock.proofs.see_input.Tie as tie
 
--- needs: needs, sees
+-- needs: rules, sees
 pub see_input_spec : {M : Type 1} → statement M
 see_input_spec =
     tie.close

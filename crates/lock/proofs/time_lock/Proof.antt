@@ -4,7 +4,7 @@ use Rattle.lock.proofs.Locks.{judged}
 use Rattle.lock.proofs.time_lock.Statement.{statement}
 use Rattle.lock.proofs.time_lock.Tie as tie
 
--- needs: needs, judged
+-- needs: rules, judged
 pub time_lock_spec : {M : Type 1} → statement M
 time_lock_spec =
     tie.close

@@ -4,7 +4,7 @@ use Rattle.lock.proofs.Wishes.{wishes}
 use Rattle.lock.proofs.wish_at.Statement.{statement}
 use Rattle.lock.proofs.wish_at.Tie as tie
 
--- needs: needs, wishes
+-- needs: rules, wishes
 pub wish_at_spec : {M : Type 1} → statement M
 wish_at_spec =
     tie.close

@@ -4,7 +4,7 @@ use Rattle.text.proofs.Chains.{chain5}
 use Rattle.lock_lines.proofs.put_misread.Statement.{statement}
 use Rattle.lock_lines.proofs.put_misread.Tie as tie
 
--- needs: needs, chain5 |
+-- needs: rules, chain5 |
 pub put_misread_spec : {M : Type 1} → statement M
 put_misread_spec =
     tie.close

@@ -5,7 +5,7 @@ use Rattle.lock_lines.proofs.Answers.{verdict_by}
 use Rattle.lock_lines.proofs.put_verdict.Statement.{statement}
 use Rattle.lock_lines.proofs.put_verdict.Tie as tie
 
--- needs: needs, verdict-by | verdict
+-- needs: rules, verdict_by | verdict
 pub put_verdict_spec : {M : Type 1} → statement M
 unfolding verdict
 put_verdict_spec =

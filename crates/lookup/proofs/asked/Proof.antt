@@ -5,7 +5,7 @@ use Rattle.lookup.proofs.Finds.{askings}
 use Rattle.lookup.proofs.asked.Statement.{statement}
 use Rattle.lookup.proofs.asked.Tie as tie
 
--- needs: needs, fits, askings
+-- needs: rules, fits, askings
 pub asked_spec : {M : Type 1} → statement M
 asked_spec =
     tie.close

@@ -13,7 +13,7 @@ invariant-loop file pairs key_type key_data i₀ left₀ i left = Finding file (
 abbrev decreases-loop : tie.decreases-loop-left
 decreases-loop file pairs key_type key_data i₀ left₀ i left = left
 
--- needs: needs, findings | entriesOf
+-- needs: rules, findings | entries_of
 pub find_place_spec : {M : Type 1} → statement M
 unfolding entries_of
 find_place_spec =

@@ -5,7 +5,7 @@ use Rattle.lookup.proofs.Finds.{get_is}
 use Rattle.lookup.proofs.get.Statement.{statement}
 use Rattle.lookup.proofs.get.Tie as tie
 
--- needs: needs, fits, map-held, get-is
+-- needs: rules, fits, map_held, get_is
 pub get_spec : {M : Type 1} → statement M
 get_spec =
     tie.close

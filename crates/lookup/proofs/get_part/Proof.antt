@@ -4,7 +4,7 @@ use Rattle.lookup.proofs.Finds.{part_is}
 use Rattle.lookup.proofs.get_part.Statement.{statement}
 use Rattle.lookup.proofs.get_part.Tie as tie
 
--- needs: needs, part-is
+-- needs: rules, part_is
 pub get_part_spec : {M : Type 1} → statement M
 get_part_spec =
     tie.close

@@ -4,7 +4,7 @@ use Rattle.lookup.proofs.Lists.{types}
 use Rattle.lookup.proofs.is_before.Statement.{statement}
 use Rattle.lookup.proofs.is_before.Tie as tie
 
--- needs: needs, types
+-- needs: rules, types
 pub is_before_spec : {M : Type 1} → statement M
 is_before_spec =
     tie.close

@@ -4,7 +4,7 @@ use Rattle.lookup.proofs.Finds.{keys}
 use Rattle.lookup.proofs.is_key.Statement.{statement}
 use Rattle.lookup.proofs.is_key.Tie as tie
 
--- needs: needs, keys
+-- needs: rules, keys
 pub is_key_spec : {M : Type 1} → statement M
 is_key_spec =
     tie.close

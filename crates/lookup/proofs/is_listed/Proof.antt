@@ -4,7 +4,7 @@ use Rattle.lookup.proofs.Lists.{types}
 use Rattle.lookup.proofs.is_listed.Statement.{statement}
 use Rattle.lookup.proofs.is_listed.Tie as tie
 
--- needs: needs, types
+-- needs: rules, types
 pub is_listed_spec : {M : Type 1} → statement M
 is_listed_spec =
     tie.close

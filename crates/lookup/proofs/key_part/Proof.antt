@@ -4,7 +4,7 @@ use Rattle.lookup.proofs.Lists.{nth_parts}
 use Rattle.lookup.proofs.key_part.Statement.{statement}
 use Rattle.lookup.proofs.key_part.Tie as tie
 
--- needs: needs, nth-parts
+-- needs: rules, nth_parts
 pub key_part_spec : {M : Type 1} → statement M
 key_part_spec =
     tie.close

@@ -4,7 +4,7 @@ use Rattle.lookup.proofs.Finds.{lengths}
 use Rattle.lookup.proofs.length_fits.Statement.{statement}
 use Rattle.lookup.proofs.length_fits.Tie as tie
 
--- needs: needs, lengths
+-- needs: rules, lengths
 pub length_fits_spec : {M : Type 1} → statement M
 length_fits_spec =
     tie.close

@@ -5,7 +5,7 @@ use Rattle.lookup.proofs.Lists.{list_is}
 use Rattle.lookup.proofs.list.Statement.{statement}
 use Rattle.lookup.proofs.list.Tie as tie
 
--- needs: needs, fits, map-held, list-is
+-- needs: rules, fits, map_held, list_is
 pub list_spec : {M : Type 1} → statement M
 list_spec =
     tie.close

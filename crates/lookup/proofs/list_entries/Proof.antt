@@ -15,7 +15,7 @@ invariant-loop file pairs key_type i₀ rest₀ first₀ count₀ i rest first c
 abbrev decreases-loop : tie.decreases-loop-rest
 decreases-loop file pairs key_type i₀ rest₀ first₀ count₀ i rest first count = rest
 
--- needs: needs, countings | entriesOf
+-- needs: rules, countings | entries_of
 pub list_entries_spec : {M : Type 1} → statement M
 unfolding entries_of
 list_entries_spec =

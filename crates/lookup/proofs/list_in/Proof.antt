@@ -5,7 +5,7 @@ use Rattle.lookup.proofs.Lists.{listings}
 use Rattle.lookup.proofs.list_in.Statement.{statement}
 use Rattle.lookup.proofs.list_in.Tie as tie
 
--- needs: needs, fits, listings
+-- needs: rules, fits, listings
 pub list_in_spec : {M : Type 1} → statement M
 list_in_spec =
     tie.close

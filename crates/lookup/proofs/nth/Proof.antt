@@ -5,7 +5,7 @@ use Rattle.lookup.proofs.Lists.{nth_is}
 use Rattle.lookup.proofs.nth.Statement.{statement}
 use Rattle.lookup.proofs.nth.Tie as tie
 
--- needs: needs, fits, map-held, nth-is
+-- needs: rules, fits, map_held, nth_is
 pub nth_spec : {M : Type 1} → statement M
 nth_spec =
     tie.close

@@ -4,7 +4,7 @@ use Rattle.lookup.proofs.Lists.{nths}
 use Rattle.lookup.proofs.nth_in.Statement.{statement}
 use Rattle.lookup.proofs.nth_in.Tie as tie
 
--- needs: needs, nths
+-- needs: rules, nths
 pub nth_in_spec : {M : Type 1} → statement M
 nth_in_spec =
     tie.close

@@ -4,7 +4,7 @@ use Rattle.lookup.proofs.Lists.{key_is}
 use Rattle.lookup.proofs.nth_key.Statement.{statement}
 use Rattle.lookup.proofs.nth_key.Tie as tie
 
--- needs: needs, key-is
+-- needs: rules, key_is
 pub nth_key_spec : {M : Type 1} → statement M
 nth_key_spec =
     tie.close

@@ -4,7 +4,7 @@ use Rattle.lookup.proofs.Lists.{value_is}
 use Rattle.lookup.proofs.nth_value.Statement.{statement}
 use Rattle.lookup.proofs.nth_value.Tie as tie
 
--- needs: needs, value-is
+-- needs: rules, value_is
 pub nth_value_spec : {M : Type 1} → statement M
 nth_value_spec =
     tie.close

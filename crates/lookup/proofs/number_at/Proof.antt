@@ -4,7 +4,7 @@ use Rattle.lookup.proofs.Finds.{answers}
 use Rattle.lookup.proofs.number_at.Statement.{statement}
 use Rattle.lookup.proofs.number_at.Tie as tie
 
--- needs: needs, answers
+-- needs: rules, answers
 pub number_at_spec : {M : Type 1} → statement M
 number_at_spec =
     tie.close

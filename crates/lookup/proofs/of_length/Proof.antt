@@ -4,7 +4,7 @@ use Rattle.lookup.proofs.Finds.{values}
 use Rattle.lookup.proofs.of_length.Statement.{statement}
 use Rattle.lookup.proofs.of_length.Tie as tie
 
--- needs: needs, values
+-- needs: rules, values
 pub of_length_spec : {M : Type 1} → statement M
 of_length_spec =
     tie.close

@@ -4,7 +4,7 @@ use Rattle.lookup.proofs.Lists.{one_yes, one_no}
 use Rattle.lookup.proofs.one_if.Statement.{statement}
 use Rattle.lookup.proofs.one_if.Tie as tie
 
--- needs: needs, one-yes, one-no
+-- needs: rules, one_yes, one_no
 pub one_if_spec : {M : Type 1} → statement M
 one_if_spec =
     tie.close

@@ -4,7 +4,7 @@ use Rattle.lookup.proofs.Finds.{answers}
 use Rattle.lookup.proofs.part_of.Statement.{statement}
 use Rattle.lookup.proofs.part_of.Tie as tie
 
--- needs: needs, answers
+-- needs: rules, answers
 pub part_of_spec : {M : Type 1} → statement M
 part_of_spec =
     tie.close

@@ -4,7 +4,7 @@ use Rattle.lookup.proofs.Lists.{types}
 use Rattle.lookup.proofs.type_of.Statement.{statement}
 use Rattle.lookup.proofs.type_of.Tie as tie
 
--- needs: needs, types
+-- needs: rules, types
 pub type_of_spec : {M : Type 1} → statement M
 type_of_spec =
     tie.close

@@ -4,7 +4,7 @@ use Rattle.lookup.proofs.Lists.{nth_parts}
 use Rattle.lookup.proofs.value_part.Statement.{statement}
 use Rattle.lookup.proofs.value_part.Tie as tie
 
--- needs: needs, nth-parts
+-- needs: rules, nth_parts
 pub value_part_spec : {M : Type 1} → statement M
 value_part_spec =
     tie.close

@@ -4,7 +4,7 @@ use Rattle.musig2.proofs.Joins.{joins}
 use Rattle.musig2.proofs.joined_lookup.Statement.{statement}
 use Rattle.musig2.proofs.joined_lookup.Tie as tie
 
--- needs: needs, joins
+-- needs: rules, joins
 pub joined_lookup_spec : {M : Type 1} → statement M
 joined_lookup_spec =
     tie.close

@@ -4,7 +4,7 @@ use Rattle.musig2.proofs.Joins.{key_lengths}
 use Rattle.musig2.proofs.key_fits.Statement.{statement}
 use Rattle.musig2.proofs.key_fits.Tie as tie
 
--- needs: needs, key-lengths
+-- needs: rules, key_lengths
 pub key_fits_spec : {M : Type 1} → statement M
 key_fits_spec =
     tie.close

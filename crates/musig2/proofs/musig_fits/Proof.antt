@@ -4,7 +4,7 @@ use Rattle.musig2.proofs.Joins.{key_lengths}
 use Rattle.musig2.proofs.musig_fits.Statement.{statement}
 use Rattle.musig2.proofs.musig_fits.Tie as tie
 
--- needs: needs, key-lengths
+-- needs: rules, key_lengths
 pub musig_fits_spec : {M : Type 1} → statement M
 musig_fits_spec =
     tie.close

@@ -4,7 +4,7 @@ use Rattle.musig2.proofs.Joins.{musigs}
 use Rattle.musig2.proofs.musig_lookup.Statement.{statement}
 use Rattle.musig2.proofs.musig_lookup.Tie as tie
 
--- needs: needs, musigs
+-- needs: rules, musigs
 pub musig_lookup_spec : {M : Type 1} → statement M
 musig_lookup_spec =
     tie.close

@@ -4,7 +4,7 @@ use Rattle.musig2.proofs.Participants.{participants}
 use Rattle.musig2.proofs.nth_participant.Statement.{statement}
 use Rattle.musig2.proofs.nth_participant.Tie as tie
 
--- needs: needs, participants
+-- needs: rules, participants
 pub nth_participant_spec : {M : Type 1} → statement M
 nth_participant_spec =
     tie.close

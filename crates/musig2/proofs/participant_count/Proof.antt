@@ -4,7 +4,7 @@ use Rattle.musig2.proofs.Participants.{participants}
 use Rattle.musig2.proofs.participant_count.Statement.{statement}
 use Rattle.musig2.proofs.participant_count.Tie as tie
 
--- needs: needs, participants
+-- needs: rules, participants
 pub participant_count_spec : {M : Type 1} → statement M
 participant_count_spec =
     tie.close

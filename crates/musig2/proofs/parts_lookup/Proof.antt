@@ -4,7 +4,7 @@ use Rattle.musig2.proofs.Joins.{parts}
 use Rattle.musig2.proofs.parts_lookup.Statement.{statement}
 use Rattle.musig2.proofs.parts_lookup.Tie as tie
 
--- needs: needs, parts
+-- needs: rules, parts
 pub parts_lookup_spec : {M : Type 1} → statement M
 parts_lookup_spec =
     tie.close

@@ -4,7 +4,7 @@ use Rattle.output_script.proofs.Scripts.{ways}
 use Rattle.output_script.proofs.in_file.Statement.{statement}
 use Rattle.output_script.proofs.in_file.Tie as tie
 
--- needs: needs, ways
+-- needs: rules, ways
 pub in_file_spec : {M : Type 1} → statement M
 in_file_spec =
     tie.close

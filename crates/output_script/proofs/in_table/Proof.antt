@@ -4,7 +4,7 @@ use Rattle.output_script.proofs.Scripts.{ways}
 use Rattle.output_script.proofs.in_table.Statement.{statement}
 use Rattle.output_script.proofs.in_table.Tie as tie
 
--- needs: needs, ways
+-- needs: rules, ways
 pub in_table_spec : {M : Type 1} → statement M
 in_table_spec =
     tie.close

@@ -5,7 +5,7 @@ use Rattle.output_script.proofs.Scripts.{public}
 use Rattle.output_script.proofs.output_script.Statement.{statement}
 use Rattle.output_script.proofs.output_script.Tie as tie
 
--- needs: needs, fits, public
+-- needs: rules, fits, public
 pub output_script_spec : {M : Type 1} → statement M
 output_script_spec =
     tie.close

@@ -4,7 +4,7 @@ use Rattle.output_script.proofs.Scripts.{part_told}
 use Rattle.output_script.proofs.output_script_part.Statement.{statement}
 use Rattle.output_script.proofs.output_script_part.Tie as tie
 
--- needs: needs, part-told
+-- needs: rules, part_told
 pub output_script_part_spec : {M : Type 1} → statement M
 output_script_part_spec =
     tie.close

@@ -4,7 +4,7 @@ use Rattle.output_script.proofs.Scripts.{by_map}
 use Rattle.output_script.proofs.script_in.Statement.{statement}
 use Rattle.output_script.proofs.script_in.Tie as tie
 
--- needs: needs, by_map
+-- needs: rules, by_map
 pub script_in_spec : {M : Type 1} → statement M
 script_in_spec =
     tie.close

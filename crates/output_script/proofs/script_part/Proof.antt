@@ -4,7 +4,7 @@ use Rattle.output_script.proofs.Scripts.{script_parts}
 use Rattle.output_script.proofs.script_part.Statement.{statement}
 use Rattle.output_script.proofs.script_part.Tie as tie
 
--- needs: needs, script-parts
+-- needs: rules, script_parts
 pub script_part_spec : {M : Type 1} → statement M
 script_part_spec =
     tie.close

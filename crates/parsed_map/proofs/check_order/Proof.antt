@@ -4,7 +4,7 @@ use Rattle.parsed_map.proofs.Fronts.{order_rules}
 use Rattle.parsed_map.proofs.check_order.Statement.{statement}
 use Rattle.parsed_map.proofs.check_order.Tie as tie
 
--- needs: needs, order-rules
+-- needs: rules, order_rules
 pub check_order_spec : {M : Type 1} → statement M
 check_order_spec =
     tie.close

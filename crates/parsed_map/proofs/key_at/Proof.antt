@@ -4,7 +4,7 @@ use Rattle.parsed_map.proofs.Fronts.{heads}
 use Rattle.parsed_map.proofs.key_at.Statement.{statement}
 use Rattle.parsed_map.proofs.key_at.Tie as tie
 
--- needs: needs, heads
+-- needs: rules, heads
 pub key_at_spec : {M : Type 1} → statement M
 key_at_spec =
     tie.close

@@ -4,7 +4,7 @@ use Rattle.parsed_map.proofs.Fronts.{items}
 use Rattle.parsed_map.proofs.next_item.Statement.{statement}
 use Rattle.parsed_map.proofs.next_item.Tie as tie
 
--- needs: needs, items
+-- needs: rules, items
 pub next_item_spec : {M : Type 1} → statement M
 next_item_spec =
     tie.close

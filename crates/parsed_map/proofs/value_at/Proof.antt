@@ -4,7 +4,7 @@ use Rattle.parsed_map.proofs.Fronts.{values}
 use Rattle.parsed_map.proofs.value_at.Statement.{statement}
 use Rattle.parsed_map.proofs.value_at.Tie as tie
 
--- needs: needs, values
+-- needs: rules, values
 pub value_at_spec : {M : Type 1} → statement M
 value_at_spec =
     tie.close

@@ -5,7 +5,7 @@ use Rattle.psbt.proofs.Parses.{parses}
 use Rattle.psbt.proofs.parse.Statement.{statement}
 use Rattle.psbt.proofs.parse.Tie as tie
 
--- needs: needs, parses | limit
+-- needs: rules, parses | limit
 pub parse_spec : {M : Type 1} → statement M
 unfolding limit
 parse_spec =

@@ -4,7 +4,7 @@ use Rattle.psbt.proofs.Steps.{steps}
 use Rattle.psbt.proofs.step_at.Statement.{statement}
 use Rattle.psbt.proofs.step_at.Tie as tie
 
--- needs: needs, steps
+-- needs: rules, steps
 pub step_at_spec : {M : Type 1} → statement M
 step_at_spec =
     tie.close

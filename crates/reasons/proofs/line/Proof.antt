@@ -4,7 +4,7 @@ use Rattle.reasons.proofs.Rows.{lines}
 use Rattle.reasons.proofs.line.Statement.{statement}
 use Rattle.reasons.proofs.line.Tie as tie
 
--- needs: needs, lines
+-- needs: rules, lines
 pub line_spec : {M : Type 1} → statement M
 line_spec =
     tie.close

@@ -12,7 +12,7 @@ invariant-loop text i₀ i = Along text i
 abbrev decreases-loop : tie.decreases-loop-i
 decreases-loop text i₀ i = length text - i
 
--- needs: needs, ends
+-- needs: rules, ends
 pub line_len_spec : {M : Type 1} → statement M
 line_len_spec =
     tie.close

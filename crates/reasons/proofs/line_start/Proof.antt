@@ -12,7 +12,7 @@ invariant-loop text n i₀ left₀ i left = Passing text n i left
 abbrev decreases-loop : tie.decreases-loop-i
 decreases-loop text n i₀ left₀ i left = length text - i
 
--- needs: needs, starts
+-- needs: rules, starts
 pub line_start_spec : {M : Type 1} → statement M
 line_start_spec =
     tie.close

@@ -4,7 +4,7 @@ use Rattle.scripts.proofs.Tables.{entries}
 use Rattle.scripts.proofs.entry_at.Statement.{statement}
 use Rattle.scripts.proofs.entry_at.Tie as tie
 
--- needs: needs, entries
+-- needs: rules, entries
 pub entry_at_spec : {M : Type 1} → statement M
 entry_at_spec =
     tie.close

@@ -4,7 +4,7 @@ use Rattle.scripts.proofs.Tables.{fits}
 use Rattle.scripts.proofs.entry_fits.Statement.{statement}
 use Rattle.scripts.proofs.entry_fits.Tie as tie
 
--- needs: needs, fits
+-- needs: rules, fits
 pub entry_fits_spec : {M : Type 1} → statement M
 entry_fits_spec =
     tie.close

@@ -4,7 +4,7 @@ use Rattle.scripts.proofs.Tables.{blank_by}
 use Rattle.scripts.proofs.is_blank.Statement.{statement}
 use Rattle.scripts.proofs.is_blank.Tie as tie
 
--- needs: needs, blank-by
+-- needs: rules, blank_by
 pub is_blank_spec : {M : Type 1} → statement M
 is_blank_spec =
     tie.close

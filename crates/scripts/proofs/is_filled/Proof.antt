@@ -4,7 +4,7 @@ use Rattle.scripts.proofs.Tables.{fills}
 use Rattle.scripts.proofs.is_filled.Statement.{statement}
 use Rattle.scripts.proofs.is_filled.Tie as tie
 
--- needs: needs, fills
+-- needs: rules, fills
 pub is_filled_spec : {M : Type 1} → statement M
 is_filled_spec =
     tie.close

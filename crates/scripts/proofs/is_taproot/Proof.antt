@@ -4,7 +4,7 @@ use Rattle.scripts.proofs.Tables.{taproots}
 use Rattle.scripts.proofs.is_taproot.Statement.{statement}
 use Rattle.scripts.proofs.is_taproot.Tie as tie
 
--- needs: needs, taproots
+-- needs: rules, taproots
 pub is_taproot_spec : {M : Type 1} → statement M
 is_taproot_spec =
     tie.close

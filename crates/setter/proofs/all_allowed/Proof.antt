@@ -12,7 +12,7 @@ invariant-loop outputs list buffer count k₀ k = Passing (allowed outputs buffe
 abbrev decreases-loop : tie.decreases-loop-k
 decreases-loop outputs list buffer count k₀ k = count - k
 
--- needs: needs, passes
+-- needs: rules, passes
 pub all_allowed_spec : {M : Type 1} → statement M
 all_allowed_spec =
     tie.close

@@ -11,7 +11,7 @@ invariant-loop file pairs maps psbt list i₀ i = Serving file pairs maps psbt l
 abbrev decreases-loop : tie.decreases-loop-i
 decreases-loop file pairs maps psbt list i₀ i = psbt.outputs - i
 
--- needs: needs, servings
+-- needs: rules, servings
 pub all_served_spec : {M : Type 1} → statement M
 all_served_spec =
     tie.close

@@ -4,7 +4,7 @@ use Rattle.setter.proofs.Fills.{fills}
 use Rattle.setter.proofs.fill.Statement.{statement}
 use Rattle.setter.proofs.fill.Tie as tie
 
--- needs: needs, fills
+-- needs: rules, fills
 pub fill_spec : {M : Type 1} → statement M
 fill_spec =
     tie.close

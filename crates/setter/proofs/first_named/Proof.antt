@@ -11,7 +11,7 @@ invariant-loop list i count k₀ k = Seeking list i k
 abbrev decreases-loop : tie.decreases-loop-k
 decreases-loop list i count k₀ k = count - k
 
--- needs: needs, seeks
+-- needs: rules, seeks
 pub first_named_spec : {M : Type 1} → statement M
 first_named_spec =
     tie.close

@@ -4,7 +4,7 @@ use Rattle.setter.proofs.Rights.{scripts_there}
 use Rattle.setter.proofs.has_script.Statement.{statement}
 use Rattle.setter.proofs.has_script.Tie as tie
 
--- needs: needs, scripts-there
+-- needs: rules, scripts_there
 pub has_script_spec : {M : Type 1} → statement M
 has_script_spec =
     tie.close

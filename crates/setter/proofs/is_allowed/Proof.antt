@@ -4,7 +4,7 @@ use Rattle.setter.proofs.Judges.{alloweds}
 use Rattle.setter.proofs.is_allowed.Statement.{statement}
 use Rattle.setter.proofs.is_allowed.Tie as tie
 
--- needs: needs, alloweds
+-- needs: rules, alloweds
 pub is_allowed_spec : {M : Type 1} → statement M
 is_allowed_spec =
     tie.close

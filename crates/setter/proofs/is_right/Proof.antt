@@ -4,7 +4,7 @@ use Rattle.setter.proofs.Rights.{rights}
 use Rattle.setter.proofs.is_right.Statement.{statement}
 use Rattle.setter.proofs.is_right.Tie as tie
 
--- needs: needs, rights
+-- needs: rules, rights
 pub is_right_spec : {M : Type 1} → statement M
 is_right_spec =
     tie.close

@@ -4,7 +4,7 @@ use Rattle.setter.proofs.Rights.{serves}
 use Rattle.setter.proofs.is_served.Statement.{statement}
 use Rattle.setter.proofs.is_served.Tie as tie
 
--- needs: needs, serves
+-- needs: rules, serves
 pub is_served_spec : {M : Type 1} → statement M
 is_served_spec =
     tie.close

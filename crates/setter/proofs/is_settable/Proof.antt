@@ -4,7 +4,7 @@ use Rattle.setter.proofs.Rights.{settables}
 use Rattle.setter.proofs.is_settable.Statement.{statement}
 use Rattle.setter.proofs.is_settable.Tie as tie
 
--- needs: needs, settables
+-- needs: rules, settables
 pub is_settable_spec : {M : Type 1} → statement M
 is_settable_spec =
     tie.close

@@ -4,7 +4,7 @@ use Rattle.setter.proofs.Judges.{sounds}
 use Rattle.setter.proofs.is_taproot.Statement.{statement}
 use Rattle.setter.proofs.is_taproot.Tie as tie
 
--- needs: needs, sounds
+-- needs: rules, sounds
 pub is_taproot_spec : {M : Type 1} → statement M
 is_taproot_spec =
     tie.close

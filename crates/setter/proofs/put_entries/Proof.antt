@@ -11,7 +11,7 @@ invariant-loop table₀ outputs list buffer i₀ table i = Filling table₀ outp
 abbrev decreases-loop : tie.decreases-loop-i
 decreases-loop table₀ outputs list buffer i₀ table i = outputs - i
 
--- needs: needs, fillings
+-- needs: rules, fillings
 pub put_entries_spec : {M : Type 1} → statement M
 put_entries_spec =
     tie.close

@@ -4,7 +4,7 @@ use Rattle.setter.proofs.Fills.{puts_entry}
 use Rattle.setter.proofs.put_entry.Statement.{statement}
 use Rattle.setter.proofs.put_entry.Tie as tie
 
--- needs: needs, puts-entry
+-- needs: rules, puts_entry
 pub put_entry_spec : {M : Type 1} → statement M
 put_entry_spec =
     tie.close

@@ -4,7 +4,7 @@ use Rattle.setter.proofs.Fills.{puts_given}
 use Rattle.setter.proofs.put_given.Statement.{statement}
 use Rattle.setter.proofs.put_given.Tie as tie
 
--- needs: needs, puts-given
+-- needs: rules, puts_given
 pub put_given_spec : {M : Type 1} → statement M
 put_given_spec =
     tie.close

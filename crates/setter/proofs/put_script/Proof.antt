@@ -4,7 +4,7 @@ use Rattle.writer.proofs.Puts.{tagged}
 use Rattle.setter.proofs.put_script.Statement.{statement}
 use Rattle.setter.proofs.put_script.Tie as tie
 
--- needs: needs, tagged
+-- needs: rules, tagged
 pub put_script_spec : {M : Type 1} → statement M
 put_script_spec =
     tie.close

@@ -4,7 +4,7 @@ use Rattle.setter.proofs.Records.{records_read}
 use Rattle.setter.proofs.record_at.Statement.{statement}
 use Rattle.setter.proofs.record_at.Tie as tie
 
--- needs: needs, records-read
+-- needs: rules, records_read
 pub record_at_spec : {M : Type 1} → statement M
 record_at_spec =
     tie.close

@@ -4,7 +4,7 @@ use Rattle.setter.specs.Records.{record_from}
 use Rattle.setter.proofs.record_from.Statement.{statement}
 use Rattle.setter.proofs.record_from.Tie as tie
 
--- needs: needs | recordFrom
+-- needs: rules | record_from
 pub record_from_spec : {M : Type 1} → statement M
 unfolding record_from
 record_from_spec =

@@ -4,7 +4,7 @@ use Rattle.setter.proofs.Judges.{script_is}
 use Rattle.setter.proofs.script_in.Statement.{statement}
 use Rattle.setter.proofs.script_in.Tie as tie
 
--- needs: needs, script-is
+-- needs: rules, script_is
 pub script_in_spec : {M : Type 1} → statement M
 script_in_spec =
     tie.close

@@ -4,7 +4,7 @@ use Rattle.setter.proofs.Judges.{scripts_lie}
 use Rattle.setter.proofs.script_lies.Statement.{statement}
 use Rattle.setter.proofs.script_lies.Tie as tie
 
--- needs: needs, scripts-lie
+-- needs: rules, scripts_lie
 pub script_lies_spec : {M : Type 1} → statement M
 script_lies_spec =
     tie.close

@@ -4,7 +4,7 @@ use Rattle.setter.proofs.Sets.{sets_fit}
 use Rattle.setter.proofs.set_fit.Statement.{statement}
 use Rattle.setter.proofs.set_fit.Tie as tie
 
--- needs: needs, sets-fit
+-- needs: rules, sets_fit
 pub set_fit_spec : {M : Type 1} → statement M
 set_fit_spec =
     tie.close

@@ -4,7 +4,7 @@ use Rattle.setter.proofs.Sets.{sets_told}
 use Rattle.setter.proofs.set_sp_output_scripts.Statement.{statement}
 use Rattle.setter.proofs.set_sp_output_scripts.Tie as tie
 
--- needs: needs, sets-told
+-- needs: rules, sets_told
 pub set_sp_output_scripts_spec : {M : Type 1} → statement M
 set_sp_output_scripts_spec =
     tie.close

@@ -5,7 +5,7 @@ use Rattle.setter.specs.Fills.{state_after}
 use Rattle.setter.proofs.state_after.Statement.{statement}
 use Rattle.setter.proofs.state_after.Tie as tie
 
--- needs: needs, tests | stateAfter
+-- needs: rules, tests | state_after
 pub state_after_spec : {M : Type 1} → statement M
 unfolding state_after
 state_after_spec =

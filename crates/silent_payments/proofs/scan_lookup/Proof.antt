@@ -5,7 +5,7 @@ use Rattle.lookup.specs.Finds.{length_of}
 use Rattle.silent_payments.proofs.scan_lookup.Statement.{statement}
 use Rattle.silent_payments.proofs.scan_lookup.Tie as tie
 
--- needs: needs | scanLookup length_of
+-- needs: rules | scan_lookup length_of
 pub scan_lookup_spec : {M : Type 1} → statement M
 unfolding scan_lookup length_of
 scan_lookup_spec =

@@ -5,7 +5,7 @@ use Rattle.stop_lines.specs.Stops.{behind_global}
 use Rattle.stop_lines.proofs.behind_global.Statement.{statement}
 use Rattle.stop_lines.proofs.behind_global.Tie as tie
 
--- needs: needs, tests | behindGlobal
+-- needs: rules, tests | behind_global
 pub behind_global_spec : {M : Type 1} → statement M
 unfolding behind_global
 behind_global_spec =

@@ -4,7 +4,7 @@ use Rattle.stop_lines.proofs.Places.{counts}
 use Rattle.stop_lines.proofs.count_shown.Statement.{statement}
 use Rattle.stop_lines.proofs.count_shown.Tie as tie
 
--- needs: needs, counts
+-- needs: rules, counts
 pub count_shown_spec : {M : Type 1} → statement M
 count_shown_spec =
     tie.close

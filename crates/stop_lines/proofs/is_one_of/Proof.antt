@@ -4,7 +4,7 @@ use Rattle.stop_lines.proofs.Places.{two_refusals}
 use Rattle.stop_lines.proofs.is_one_of.Statement.{statement}
 use Rattle.stop_lines.proofs.is_one_of.Tie as tie
 
--- needs: needs, two-refusals
+-- needs: rules, two_refusals
 pub is_one_of_spec : {M : Type 1} → statement M
 is_one_of_spec =
     tie.close

@@ -4,7 +4,7 @@ use Rattle.stop_lines.proofs.Places.{befores}
 use Rattle.stop_lines.proofs.pairs_before.Statement.{statement}
 use Rattle.stop_lines.proofs.pairs_before.Tie as tie
 
--- needs: needs, befores
+-- needs: rules, befores
 pub pairs_before_spec : {M : Type 1} → statement M
 pairs_before_spec =
     tie.close

@@ -4,7 +4,7 @@ use Rattle.stop_lines.proofs.Places.{passing}
 use Rattle.stop_lines.proofs.pairs_passed.Statement.{statement}
 use Rattle.stop_lines.proofs.pairs_passed.Tie as tie
 
--- needs: needs, passing
+-- needs: rules, passing
 pub pairs_passed_spec : {M : Type 1} → statement M
 pairs_passed_spec =
     tie.close

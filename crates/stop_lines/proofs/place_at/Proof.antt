@@ -4,7 +4,7 @@ use Rattle.stop_lines.proofs.Places.{places}
 use Rattle.stop_lines.proofs.place_at.Statement.{statement}
 use Rattle.stop_lines.proofs.place_at.Tie as tie
 
--- needs: needs, places
+-- needs: rules, places
 pub place_at_spec : {M : Type 1} → statement M
 place_at_spec =
     tie.close

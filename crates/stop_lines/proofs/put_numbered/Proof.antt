@@ -4,7 +4,7 @@ use Rattle.text.proofs.Chains.{chain3}
 use Rattle.stop_lines.proofs.put_numbered.Statement.{statement}
 use Rattle.stop_lines.proofs.put_numbered.Tie as tie
 
--- needs: needs, chain3
+-- needs: rules, chain3
 pub put_numbered_spec : {M : Type 1} → statement M
 put_numbered_spec =
     tie.close

@@ -4,7 +4,7 @@ use Rattle.stop_lines.proofs.Places.{line_is}
 use Rattle.stop_lines.proofs.put_stop.Statement.{statement}
 use Rattle.stop_lines.proofs.put_stop.Tie as tie
 
--- needs: needs, line-is
+-- needs: rules, line_is
 pub put_stop_spec : {M : Type 1} → statement M
 put_stop_spec =
     tie.close

@@ -4,7 +4,7 @@ use Rattle.stop_lines.proofs.Places.{stopped_is}
 use Rattle.stop_lines.proofs.stopped.Statement.{statement}
 use Rattle.stop_lines.proofs.stopped.Tie as tie
 
--- needs: needs, stopped-is
+-- needs: rules, stopped_is
 pub stopped_spec : {M : Type 1} → statement M
 stopped_spec =
     tie.close

@@ -4,7 +4,7 @@ use Rattle.struct_setter.proofs.Asks.{after_serves}
 use Rattle.struct_setter.proofs.after_serve.Statement.{statement}
 use Rattle.struct_setter.proofs.after_serve.Tie as tie
 
--- needs: needs, after-serves
+-- needs: rules, after_serves
 pub after_serve_spec : {M : Type 1} → statement M
 after_serve_spec =
     tie.close

@@ -5,7 +5,7 @@ use Rattle.struct_setter.proofs.Asks.{too_yes}
 use Rattle.struct_setter.proofs.allowed_too.Statement.{statement}
 use Rattle.struct_setter.proofs.allowed_too.Tie as tie
 
--- needs: needs, too-yes | allowedToo
+-- needs: rules, too_yes | allowed_too
 pub allowed_too_spec : {M : Type 1} → statement M
 unfolding allowed_too
 allowed_too_spec =

@@ -4,7 +4,7 @@ use Rattle.struct_setter.proofs.Asks.{answers}
 use Rattle.struct_setter.proofs.answer_of.Statement.{statement}
 use Rattle.struct_setter.proofs.answer_of.Tie as tie
 
--- needs: needs, answers
+-- needs: rules, answers
 pub answer_of_spec : {M : Type 1} → statement M
 answer_of_spec =
     tie.close

@@ -4,7 +4,7 @@ use Rattle.struct_setter.proofs.Asks.{begins}
 use Rattle.struct_setter.proofs.begin.Statement.{statement}
 use Rattle.struct_setter.proofs.begin.Tie as tie
 
--- needs: needs, begins
+-- needs: rules, begins
 pub begin_spec : {M : Type 1} → statement M
 begin_spec =
     tie.close

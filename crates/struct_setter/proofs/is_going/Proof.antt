@@ -4,7 +4,7 @@ use Rattle.struct_setter.proofs.Asks.{goings}
 use Rattle.struct_setter.proofs.is_going.Statement.{statement}
 use Rattle.struct_setter.proofs.is_going.Tie as tie
 
--- needs: needs, goings
+-- needs: rules, goings
 pub is_going_spec : {M : Type 1} → statement M
 is_going_spec =
     tie.close

@@ -4,7 +4,7 @@ use Rattle.struct_setter.proofs.Asks.{served_bys}
 use Rattle.struct_setter.proofs.is_served_by.Statement.{statement}
 use Rattle.struct_setter.proofs.is_served_by.Tie as tie
 
--- needs: needs, served-bys
+-- needs: rules, served_bys
 pub is_served_by_spec : {M : Type 1} → statement M
 is_served_by_spec =
     tie.close

@@ -4,7 +4,7 @@ use Rattle.struct_setter.proofs.Asks.{names_by}
 use Rattle.struct_setter.proofs.named_by.Statement.{statement}
 use Rattle.struct_setter.proofs.named_by.Tie as tie
 
--- needs: needs, names-by
+-- needs: rules, names_by
 pub named_by_spec : {M : Type 1} → statement M
 named_by_spec =
     tie.close

@@ -4,7 +4,7 @@ use Rattle.struct_setter.proofs.Asks.{names_after_lem}
 use Rattle.struct_setter.proofs.names_after.Statement.{statement}
 use Rattle.struct_setter.proofs.names_after.Tie as tie
 
--- needs: needs, names-after
+-- needs: rules, names_after_lem
 pub names_after_spec : {M : Type 1} → statement M
 names_after_spec =
     tie.close

@@ -4,7 +4,7 @@ use Rattle.struct_setter.proofs.Asks.{next_serves}
 use Rattle.struct_setter.proofs.next_serve.Statement.{statement}
 use Rattle.struct_setter.proofs.next_serve.Tie as tie
 
--- needs: needs, next-serves
+-- needs: rules, next_serves
 pub next_serve_spec : {M : Type 1} → statement M
 next_serve_spec =
     tie.close

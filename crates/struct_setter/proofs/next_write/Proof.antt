@@ -4,7 +4,7 @@ use Rattle.struct_setter.proofs.Asks.{next_writes}
 use Rattle.struct_setter.proofs.next_write.Statement.{statement}
 use Rattle.struct_setter.proofs.next_write.Tie as tie
 
--- needs: needs, next-writes
+-- needs: rules, next_writes
 pub next_write_spec : {M : Type 1} → statement M
 next_write_spec =
     tie.close

@@ -4,7 +4,7 @@ use Rattle.struct_setter.proofs.Asks.{notes}
 use Rattle.struct_setter.proofs.note.Statement.{statement}
 use Rattle.struct_setter.proofs.note.Tie as tie
 
--- needs: needs, notes
+-- needs: rules, notes
 pub note_spec : {M : Type 1} → statement M
 note_spec =
     tie.close

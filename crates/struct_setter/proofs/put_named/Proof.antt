@@ -4,7 +4,7 @@ use Rattle.struct_setter.proofs.Asks.{puts_named}
 use Rattle.struct_setter.proofs.put_named.Statement.{statement}
 use Rattle.struct_setter.proofs.put_named.Tie as tie
 
--- needs: needs, puts-named
+-- needs: rules, puts_named
 pub put_named_spec : {M : Type 1} → statement M
 put_named_spec =
     tie.close

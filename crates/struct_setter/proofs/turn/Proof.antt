@@ -4,7 +4,7 @@ use Rattle.struct_setter.proofs.Asks.{turns}
 use Rattle.struct_setter.proofs.turn.Statement.{statement}
 use Rattle.struct_setter.proofs.turn.Tie as tie
 
--- needs: needs, turns
+-- needs: rules, turns
 pub turn_spec : {M : Type 1} → statement M
 turn_spec =
     tie.close

@@ -5,7 +5,7 @@ use Rattle.text.specs.Spelled.{digit}
 use Rattle.text.proofs.digit.Statement.{statement}
 use Rattle.text.proofs.digit.Tie as tie
 
--- needs: needs, tests | digit
+-- needs: rules, tests | digit
 pub digit_spec : {M : Type 1} → statement M
 unfolding digit
 digit_spec =

@@ -12,7 +12,7 @@ invariant-loop out₀ at text to₀ i₀ out to i = Laying at out₀ text to out
 abbrev decreases-loop : tie.decreases-loop-i
 decreases-loop out₀ at text to₀ i₀ out to i = length text - i
 
--- needs: needs, lays
+-- needs: rules, lays
 pub put_spec : {M : Type 1} → statement M
 put_spec =
     tie.close

@@ -4,7 +4,7 @@ use Rattle.text.proofs.Lays.{bytes_put}
 use Rattle.text.proofs.put_byte.Statement.{statement}
 use Rattle.text.proofs.put_byte.Tie as tie
 
--- needs: needs, bytesPut
+-- needs: rules, bytes_put
 pub put_byte_spec : {M : Type 1} → statement M
 put_byte_spec =
     tie.close

@@ -4,7 +4,7 @@ use Rattle.text.proofs.Lays.{spelled}
 use Rattle.text.proofs.put_decimal.Statement.{statement}
 use Rattle.text.proofs.put_decimal.Tie as tie
 
--- needs: needs, spelled
+-- needs: rules, spelled
 pub put_decimal_spec : {M : Type 1} → statement M
 put_decimal_spec =
     tie.close

@@ -12,7 +12,7 @@ invariant-loop out₀ at bytes to₀ i₀ out to i = Hexing at out₀ bytes to o
 abbrev decreases-loop : tie.decreases-loop-i
 decreases-loop out₀ at bytes to₀ i₀ out to i = length bytes - i
 
--- needs: needs, hexes
+-- needs: rules, hexes
 pub put_hex_spec : {M : Type 1} → statement M
 put_hex_spec =
     tie.close

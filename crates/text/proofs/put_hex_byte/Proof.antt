@@ -4,7 +4,7 @@ use Rattle.text.proofs.Lays.{hex_byte_lem}
 use Rattle.text.proofs.put_hex_byte.Statement.{statement}
 use Rattle.text.proofs.put_hex_byte.Tie as tie
 
--- needs: needs, hex-byte
+-- needs: rules, hex_byte_lem
 pub put_hex_byte_spec : {M : Type 1} → statement M
 put_hex_byte_spec =
     tie.close

@@ -4,7 +4,7 @@ use Rattle.text.proofs.Lays.{dashes}
 use Rattle.text.proofs.put_hex_or_dash.Statement.{statement}
 use Rattle.text.proofs.put_hex_or_dash.Tie as tie
 
--- needs: needs, dashes
+-- needs: rules, dashes
 pub put_hex_or_dash_spec : {M : Type 1} → statement M
 put_hex_or_dash_spec =
     tie.close

@@ -4,7 +4,7 @@ use Rattle.text.proofs.Lays.{signs}
 use Rattle.text.proofs.put_signed.Statement.{statement}
 use Rattle.text.proofs.put_signed.Tie as tie
 
--- needs: needs, signs
+-- needs: rules, signs
 pub put_signed_spec : {M : Type 1} → statement M
 put_signed_spec =
     tie.close

@@ -4,7 +4,7 @@ use Rattle.tx_bytes.proofs.Inputs.{fields_put}
 use Rattle.tx_bytes.proofs.put_at.Statement.{statement}
 use Rattle.tx_bytes.proofs.put_at.Tie as tie
 
--- needs: needs, fields-put
+-- needs: rules, fields_put
 pub put_at_spec : {M : Type 1} → statement M
 put_at_spec =
     tie.close

@@ -5,7 +5,7 @@ use Rattle.tx_bytes.proofs.Wholes.{front_is}
 use Rattle.tx_bytes.proofs.put_front.Statement.{statement}
 use Rattle.tx_bytes.proofs.put_front.Tie as tie
 
--- needs: needs, refl, front-is
+-- needs: rules, refl, front_is
 pub put_front_spec : {M : Type 1} → statement M
 put_front_spec =
     tie.close

@@ -4,7 +4,7 @@ use Rattle.tx_bytes.proofs.Inputs.{input_fields}
 use Rattle.tx_bytes.proofs.put_input.Statement.{statement}
 use Rattle.tx_bytes.proofs.put_input.Tie as tie
 
--- needs: needs, input-fields
+-- needs: rules, input_fields
 pub put_input_spec : {M : Type 1} → statement M
 put_input_spec =
     tie.close

@@ -12,7 +12,7 @@ invariant-loop file pairs maps psbt out₀ at i₀ to₀ out i to = Putting file
 abbrev decreases-loop : tie.decreases-loop-i
 decreases-loop file pairs maps psbt out₀ at i₀ to₀ out i to = psbt.inputs - i
 
--- needs: needs, puttings, input-maps
+-- needs: rules, puttings, input_maps
 pub put_inputs_spec : {M : Type 1} → statement M
 put_inputs_spec =
     tie.close

@@ -4,7 +4,7 @@ use Rattle.tx_bytes.proofs.Outputs.{output_puts}
 use Rattle.tx_bytes.proofs.put_output.Statement.{statement}
 use Rattle.tx_bytes.proofs.put_output.Tie as tie
 
--- needs: needs, output-puts
+-- needs: rules, output_puts
 pub put_output_spec : {M : Type 1} → statement M
 put_output_spec =
     tie.close

@@ -12,7 +12,7 @@ invariant-loop file pairs maps psbt state scripts out₀ at i₀ to₀ out i to 
 abbrev decreases-loop : tie.decreases-loop-i
 decreases-loop file pairs maps psbt state scripts out₀ at i₀ to₀ out i to = psbt.outputs - i
 
--- needs: needs, puttings, output-maps
+-- needs: rules, puttings, output_maps_lem
 pub put_outputs_spec : {M : Type 1} → statement M
 put_outputs_spec =
     tie.close

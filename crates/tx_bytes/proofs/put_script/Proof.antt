@@ -4,7 +4,7 @@ use Rattle.tx_bytes.proofs.Outputs.{script_puts}
 use Rattle.tx_bytes.proofs.put_script.Statement.{statement}
 use Rattle.tx_bytes.proofs.put_script.Tie as tie
 
--- needs: needs, script-puts
+-- needs: rules, script_puts
 pub put_script_spec : {M : Type 1} → statement M
 put_script_spec =
     tie.close

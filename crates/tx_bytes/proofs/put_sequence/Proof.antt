@@ -4,7 +4,7 @@ use Rattle.tx_bytes.proofs.Inputs.{sequences_put}
 use Rattle.tx_bytes.proofs.put_sequence.Statement.{statement}
 use Rattle.tx_bytes.proofs.put_sequence.Tie as tie
 
--- needs: needs, sequences-put
+-- needs: rules, sequences_put
 pub put_sequence_spec : {M : Type 1} → statement M
 put_sequence_spec =
     tie.close

@@ -4,7 +4,7 @@ use Rattle.tx_bytes.proofs.Wholes.{txs}
 use Rattle.tx_bytes.proofs.put_tx.Statement.{statement}
 use Rattle.tx_bytes.proofs.put_tx.Tie as tie
 
--- needs: needs, txs
+-- needs: rules, txs
 pub put_tx_spec : {M : Type 1} → statement M
 put_tx_spec =
     tie.close

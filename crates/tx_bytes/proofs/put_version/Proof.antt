@@ -4,7 +4,7 @@ use Rattle.tx_bytes.proofs.Wholes.{version_is}
 use Rattle.tx_bytes.proofs.put_version.Statement.{statement}
 use Rattle.tx_bytes.proofs.put_version.Tie as tie
 
--- needs: needs, version-is
+-- needs: rules, version_is
 pub put_version_spec : {M : Type 1} → statement M
 put_version_spec =
     tie.close

@@ -4,7 +4,7 @@ use Rattle.tx_size.proofs.Lengths.{caps}
 use Rattle.tx_size.proofs.add_capped.Statement.{statement}
 use Rattle.tx_size.proofs.add_capped.Tie as tie
 
--- needs: needs, caps
+-- needs: rules, caps
 pub add_capped_spec : {M : Type 1} → statement M
 add_capped_spec =
     tie.close

@@ -4,7 +4,7 @@ use Rattle.tx_size.proofs.Lengths.{fixes}
 use Rattle.tx_size.proofs.fixed_len.Statement.{statement}
 use Rattle.tx_size.proofs.fixed_len.Tie as tie
 
--- needs: needs, fixes
+-- needs: rules, fixes
 pub fixed_len_spec : {M : Type 1} → statement M
 fixed_len_spec =
     tie.close

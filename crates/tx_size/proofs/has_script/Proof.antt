@@ -5,7 +5,7 @@ use Rattle.tx_size.proofs.Scripts.{has_by}
 use Rattle.tx_size.proofs.has_script.Statement.{statement}
 use Rattle.tx_size.proofs.has_script.Tie as tie
 
--- needs: needs, has-by | hasScript
+-- needs: rules, has_by | has_script
 pub has_script_spec : {M : Type 1} → statement M
 unfolding has_script
 has_script_spec =

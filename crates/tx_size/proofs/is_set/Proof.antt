@@ -4,7 +4,7 @@ use Rattle.tx_size.proofs.Scripts.{sets}
 use Rattle.tx_size.proofs.is_set.Statement.{statement}
 use Rattle.tx_size.proofs.is_set.Tie as tie
 
--- needs: needs, sets
+-- needs: rules, sets
 pub is_set_spec : {M : Type 1} → statement M
 is_set_spec =
     tie.close

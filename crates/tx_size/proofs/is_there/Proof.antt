@@ -5,7 +5,7 @@ use Rattle.tx_size.proofs.Outputs.{there_by}
 use Rattle.tx_size.proofs.is_there.Statement.{statement}
 use Rattle.tx_size.proofs.is_there.Tie as tie
 
--- needs: needs, there-by | thereAt
+-- needs: rules, there_by | there_at
 pub is_there_spec : {M : Type 1} → statement M
 unfolding there_at
 is_there_spec =

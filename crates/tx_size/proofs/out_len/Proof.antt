@@ -4,7 +4,7 @@ use Rattle.tx_size.proofs.Lengths.{out_lens}
 use Rattle.tx_size.proofs.out_len.Statement.{statement}
 use Rattle.tx_size.proofs.out_len.Tie as tie
 
--- needs: needs, out-lens
+-- needs: rules, out_lens
 pub out_len_spec : {M : Type 1} → statement M
 out_len_spec =
     tie.close

@@ -4,7 +4,7 @@ use Rattle.tx_size.proofs.Outputs.{lens}
 use Rattle.tx_size.proofs.output_len.Statement.{statement}
 use Rattle.tx_size.proofs.output_len.Tie as tie
 
--- needs: needs, lens
+-- needs: rules, lens
 pub output_len_spec : {M : Type 1} → statement M
 output_len_spec =
     tie.close

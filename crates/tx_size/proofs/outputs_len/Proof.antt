@@ -12,7 +12,7 @@ invariant-loop file pairs maps psbt state scripts first i₀ total₀ i total = 
 abbrev decreases-loop : tie.decreases-loop-i
 decreases-loop file pairs maps psbt state scripts first i₀ total₀ i total = psbt.outputs - i
 
--- needs: needs, measures, output-maps
+-- needs: rules, measures, output_maps_lem
 pub outputs_len_spec : {M : Type 1} → statement M
 outputs_len_spec =
     tie.close

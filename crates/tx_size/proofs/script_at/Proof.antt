@@ -4,7 +4,7 @@ use Rattle.tx_size.proofs.Scripts.{scripts_at}
 use Rattle.tx_size.proofs.script_at.Statement.{statement}
 use Rattle.tx_size.proofs.script_at.Tie as tie
 
--- needs: needs, scripts-at
+-- needs: rules, scripts_at
 pub script_at_spec : {M : Type 1} → statement M
 script_at_spec =
     tie.close

@@ -4,7 +4,7 @@ use Rattle.tx_size.proofs.Scripts.{script_lens}
 use Rattle.tx_size.proofs.script_len.Statement.{statement}
 use Rattle.tx_size.proofs.script_len.Tie as tie
 
--- needs: needs, script-lens
+-- needs: rules, script_lens
 pub script_len_spec : {M : Type 1} → statement M
 script_len_spec =
     tie.close

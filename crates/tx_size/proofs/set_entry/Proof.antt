@@ -4,7 +4,7 @@ use Rattle.tx_size.proofs.Scripts.{entries_set}
 use Rattle.tx_size.proofs.set_entry.Statement.{statement}
 use Rattle.tx_size.proofs.set_entry.Tie as tie
 
--- needs: needs, entries-set
+-- needs: rules, entries_set
 pub set_entry_spec : {M : Type 1} → statement M
 set_entry_spec =
     tie.close

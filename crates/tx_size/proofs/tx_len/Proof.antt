@@ -4,7 +4,7 @@ use Rattle.tx_size.proofs.Outputs.{tx_measured}
 use Rattle.tx_size.proofs.tx_len.Statement.{statement}
 use Rattle.tx_size.proofs.tx_len.Tie as tie
 
--- needs: needs, tx-measured
+-- needs: rules, tx_measured
 pub tx_len_spec : {M : Type 1} → statement M
 tx_len_spec =
     tie.close

@@ -5,7 +5,7 @@ use Rattle.typed.proofs.Fields.{asked_of}
 use Rattle.typed.proofs.input_number.Statement.{statement}
 use Rattle.typed.proofs.input_number.Tie as tie
 
--- needs: needs, fits, input-held, asked_of
+-- needs: rules, fits, input_held, asked_of
 pub input_number_spec : {M : Type 1} → statement M
 input_number_spec =
     tie.close

@@ -5,7 +5,7 @@ use Rattle.typed.proofs.Fields.{asked_of}
 use Rattle.typed.proofs.input_part.Statement.{statement}
 use Rattle.typed.proofs.input_part.Tie as tie
 
--- needs: needs, fits, input-held, asked_of
+-- needs: rules, fits, input_held, asked_of
 pub input_part_spec : {M : Type 1} → statement M
 input_part_spec =
     tie.close

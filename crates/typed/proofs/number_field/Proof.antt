@@ -4,7 +4,7 @@ use Rattle.typed.proofs.Fields.{fields}
 use Rattle.typed.proofs.number_field.Statement.{statement}
 use Rattle.typed.proofs.number_field.Tie as tie
 
--- needs: needs, fields
+-- needs: rules, fields
 pub number_field_spec : {M : Type 1} → statement M
 number_field_spec =
     tie.close

@@ -5,7 +5,7 @@ use Rattle.typed.proofs.Fields.{asked_of}
 use Rattle.typed.proofs.output_part.Statement.{statement}
 use Rattle.typed.proofs.output_part.Tie as tie
 
--- needs: needs, fits, output-held, asked_of
+-- needs: rules, fits, output_held, asked_of
 pub output_part_spec : {M : Type 1} → statement M
 output_part_spec =
     tie.close

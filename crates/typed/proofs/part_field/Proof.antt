@@ -4,7 +4,7 @@ use Rattle.typed.proofs.Fields.{fields}
 use Rattle.typed.proofs.part_field.Statement.{statement}
 use Rattle.typed.proofs.part_field.Tie as tie
 
--- needs: needs, fields
+-- needs: rules, fields
 pub part_field_spec : {M : Type 1} → statement M
 part_field_spec =
     tie.close

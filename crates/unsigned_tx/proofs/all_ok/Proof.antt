@@ -4,7 +4,7 @@ use Rattle.unsigned_tx.proofs.Surveys.{alls}
 use Rattle.unsigned_tx.proofs.all_ok.Statement.{statement}
 use Rattle.unsigned_tx.proofs.all_ok.Tie as tie
 
--- needs: needs, alls
+-- needs: rules, alls
 pub all_ok_spec : {M : Type 1} → statement M
 all_ok_spec =
     tie.close

@@ -4,7 +4,7 @@ use Rattle.unsigned_tx.proofs.Finals.{calls}
 use Rattle.unsigned_tx.proofs.fit_tx.Statement.{statement}
 use Rattle.unsigned_tx.proofs.fit_tx.Tie as tie
 
--- needs: needs, calls
+-- needs: rules, calls
 pub fit_tx_spec : {M : Type 1} → statement M
 fit_tx_spec =
     tie.close

@@ -4,7 +4,7 @@ use Rattle.unsigned_tx.proofs.Surveys.{oks}
 use Rattle.unsigned_tx.proofs.input_ok.Statement.{statement}
 use Rattle.unsigned_tx.proofs.input_ok.Tie as tie
 
--- needs: needs, oks
+-- needs: rules, oks
 pub input_ok_spec : {M : Type 1} → statement M
 input_ok_spec =
     tie.close

@@ -5,7 +5,7 @@ use Rattle.unsigned_tx.proofs.Surveys.{allowed_by}
 use Rattle.unsigned_tx.proofs.is_allowed.Statement.{statement}
 use Rattle.unsigned_tx.proofs.is_allowed.Tie as tie
 
--- needs: needs, allowed-by | allowedAt
+-- needs: rules, allowed_by | allowed_at
 pub is_allowed_spec : {M : Type 1} → statement M
 unfolding allowed_at
 is_allowed_spec =

@@ -5,7 +5,7 @@ use Rattle.unsigned_tx.proofs.Judges.{found_by}
 use Rattle.unsigned_tx.proofs.is_found.Statement.{statement}
 use Rattle.unsigned_tx.proofs.is_found.Tie as tie
 
--- needs: needs, found-by | isFound
+-- needs: rules, found_by | is_found
 pub is_found_spec : {M : Type 1} → statement M
 unfolding is_found
 is_found_spec =

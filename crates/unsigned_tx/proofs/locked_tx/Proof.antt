@@ -4,7 +4,7 @@ use Rattle.unsigned_tx.proofs.Finals.{lockeds}
 use Rattle.unsigned_tx.proofs.locked_tx.Statement.{statement}
 use Rattle.unsigned_tx.proofs.locked_tx.Tie as tie
 
--- needs: needs, lockeds
+-- needs: rules, lockeds
 pub locked_tx_spec : {M : Type 1} → statement M
 locked_tx_spec =
     tie.close

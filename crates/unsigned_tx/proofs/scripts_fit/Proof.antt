@@ -12,7 +12,7 @@ invariant-loop file pairs maps psbt scripts i₀ i = Judging file pairs maps psb
 abbrev decreases-loop : tie.decreases-loop-i
 decreases-loop file pairs maps psbt scripts i₀ i = psbt.outputs - i
 
--- needs: needs, judges, output-maps
+-- needs: rules, judges, output_maps_lem
 pub scripts_fit_spec : {M : Type 1} → statement M
 scripts_fit_spec =
     tie.close

@@ -13,7 +13,7 @@ invariant-loop file pairs maps psbt asks₀ ok₀ i₀ asks ok i = Surveying fil
 abbrev decreases-loop : tie.decreases-loop-i
 decreases-loop file pairs maps psbt asks₀ ok₀ i₀ asks ok i = psbt.inputs - i
 
--- needs: needs, surveys, input-maps
+-- needs: rules, surveys, input_maps
 pub survey_inputs_spec : {M : Type 1} → statement M
 survey_inputs_spec =
     tie.close

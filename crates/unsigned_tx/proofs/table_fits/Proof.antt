@@ -4,7 +4,7 @@ use Rattle.unsigned_tx.proofs.Judges.{tables}
 use Rattle.unsigned_tx.proofs.table_fits.Statement.{statement}
 use Rattle.unsigned_tx.proofs.table_fits.Tie as tie
 
--- needs: needs, tables
+-- needs: rules, tables
 pub table_fits_spec : {M : Type 1} → statement M
 table_fits_spec =
     tie.close

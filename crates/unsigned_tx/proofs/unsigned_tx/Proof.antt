@@ -4,7 +4,7 @@ use Rattle.unsigned_tx.proofs.Finals.{public}
 use Rattle.unsigned_tx.proofs.unsigned_tx.Statement.{statement}
 use Rattle.unsigned_tx.proofs.unsigned_tx.Tie as tie
 
--- needs: needs, public
+-- needs: rules, public
 pub unsigned_tx_spec : {M : Type 1} → statement M
 unsigned_tx_spec =
     tie.close

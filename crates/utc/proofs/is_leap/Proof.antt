@@ -5,7 +5,7 @@ use Rattle.utc.specs.Dates.{leap}
 use Rattle.utc.proofs.is_leap.Statement.{statement}
 use Rattle.utc.proofs.is_leap.Tie as tie
 
--- needs: needs, tests | leap
+-- needs: rules, tests | leap
 pub is_leap_spec : {M : Type 1} → statement M
 unfolding leap
 is_leap_spec =

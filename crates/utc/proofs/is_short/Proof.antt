@@ -5,7 +5,7 @@ use Rattle.utc.specs.Dates.{is_short}
 use Rattle.utc.proofs.is_short.Statement.{statement}
 use Rattle.utc.proofs.is_short.Tie as tie
 
--- needs: needs, tests | isShort
+-- needs: rules, tests | is_short
 pub is_short_spec : {M : Type 1} → statement M
 unfolding is_short
 is_short_spec =

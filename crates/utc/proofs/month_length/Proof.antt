@@ -4,7 +4,7 @@ use Rattle.utc.proofs.Pieces.{month_lengths}
 use Rattle.utc.proofs.month_length.Statement.{statement}
 use Rattle.utc.proofs.month_length.Tie as tie
 
--- needs: needs, month-lengths
+-- needs: rules, month_lengths
 pub month_length_spec : {M : Type 1} → statement M
 month_length_spec =
     tie.close

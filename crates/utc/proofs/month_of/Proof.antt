@@ -12,7 +12,7 @@ invariant-loop year day m₀ d₀ m d = Months year day m d
 abbrev decreases-loop : tie.decreases-loop-m
 decreases-loop year day m₀ d₀ m d = 12 - m
 
--- needs: needs, months
+-- needs: rules, months
 pub month_of_spec : {M : Type 1} → statement M
 month_of_spec =
     tie.close

@@ -4,7 +4,7 @@ use Rattle.utc.proofs.Pieces.{day_text_lem}
 use Rattle.utc.proofs.put_day.Statement.{statement}
 use Rattle.utc.proofs.put_day.Tie as tie
 
--- needs: needs, day-text
+-- needs: rules, day_text_lem
 pub put_day_spec : {M : Type 1} → statement M
 put_day_spec =
     tie.close

@@ -4,7 +4,7 @@ use Rattle.utc.proofs.Pieces.{year_lengths}
 use Rattle.utc.proofs.year_length.Statement.{statement}
 use Rattle.utc.proofs.year_length.Tie as tie
 
--- needs: needs, year-lengths
+-- needs: rules, year_lengths
 pub year_length_spec : {M : Type 1} → statement M
 year_length_spec =
     tie.close

@@ -10,7 +10,7 @@ invariant-loop day y₀ d₀ long₀ y d long = Years day y d long
 abbrev decreases-loop : tie.decreases-loop-long
 decreases-loop day y₀ d₀ long₀ y d long = d
 
--- needs: needs, years
+-- needs: rules, years
 pub year_of_spec : {M : Type 1} → statement M
 year_of_spec =
     tie.close

@@ -12,7 +12,7 @@ invariant-loop out₀ at file pairs maps psbt to₀ i₀ out to i = Asking at ou
 abbrev decreases-loop : tie.decreases-loop-i
 decreases-loop out₀ at file pairs maps psbt to₀ i₀ out to i = psbt.inputs - i
 
--- needs: needs, asking
+-- needs: rules, asking
 pub put_inputs_spec : {M : Type 1} → statement M
 put_inputs_spec =
     tie.close

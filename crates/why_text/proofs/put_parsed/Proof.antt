@@ -4,7 +4,7 @@ use Rattle.why_text.proofs.Wholes.{by_parse}
 use Rattle.why_text.proofs.put_parsed.Statement.{statement}
 use Rattle.why_text.proofs.put_parsed.Tie as tie
 
--- needs: needs, by-parse
+-- needs: rules, by_parse
 pub put_parsed_spec : {M : Type 1} → statement M
 put_parsed_spec =
     tie.close

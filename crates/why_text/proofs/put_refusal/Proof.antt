@@ -5,7 +5,7 @@ use Rattle.why_text.specs.Why.{refused_text}
 use Rattle.why_text.proofs.put_refusal.Statement.{statement}
 use Rattle.why_text.proofs.put_refusal.Tie as tie
 
--- needs: needs, chain2 | refusedText
+-- needs: rules, chain2 | refused_text
 pub put_refusal_spec : {M : Type 1} → statement M
 unfolding refused_text
 put_refusal_spec =

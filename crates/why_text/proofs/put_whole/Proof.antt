@@ -5,6 +5,6 @@ use Rattle.why_text.proofs.Sizes.{why_fits}
 use Rattle.why_text.proofs.put_whole.Statement.{statement}
 use Rattle.why_text.proofs.put_whole.Tie as tie
 
--- needs: needs, fronts, why-fits
+-- needs: rules, fronts, why_fits
 pub put_whole_spec : {M : Type 1} → statement M
 put_whole_spec = tie.close (tie.spec (λ c κs. search (rules, fronts, why_fits)) (λ c. search (rules, fronts, why_fits)) (λ c. search (rules, fronts, why_fits)))

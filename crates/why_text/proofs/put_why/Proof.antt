@@ -4,7 +4,7 @@ use Rattle.why_text.proofs.Wholes.{by_length}
 use Rattle.why_text.proofs.put_why.Statement.{statement}
 use Rattle.why_text.proofs.put_why.Tie as tie
 
--- needs: needs, by_length
+-- needs: rules, by_length
 pub put_why_spec : {M : Type 1} → statement M
 put_why_spec =
     tie.close

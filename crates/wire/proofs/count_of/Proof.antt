@@ -4,7 +4,7 @@ use Rattle.wire.proofs.Sizes.{counts_by}
 use Rattle.wire.proofs.count_of.Statement.{statement}
 use Rattle.wire.proofs.count_of.Tie as tie
 
--- needs: needs, counts-by
+-- needs: rules, counts_by
 pub count_of_spec : {M : Type 1} → statement M
 count_of_spec =
     tie.close

@@ -15,7 +15,7 @@ invariant-loop s n v₀ i₀ v i = (n ≡ length s) × (i ≤ n) × (v ≡ le (d
 abbrev decreases-loop : tie.decreases-loop-i
 decreases-loop s n v₀ i₀ v i = n - i
 
--- needs: needs, bytes, les
+-- needs: rules, bytes, les
 pub le_spec : {M : Type 1} → statement M
 le_spec =
     tie.close

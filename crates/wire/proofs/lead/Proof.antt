@@ -4,7 +4,7 @@ use Rattle.wire.proofs.Leads.{leads}
 use Rattle.wire.proofs.lead.Statement.{statement}
 use Rattle.wire.proofs.lead.Tie as tie
 
--- needs: needs, leads
+-- needs: rules, leads
 pub lead_spec : {M : Type 1} → statement M
 lead_spec =
     tie.close

@@ -5,7 +5,7 @@ use Rattle.wire.proofs.Sizes.{longs}
 use Rattle.wire.proofs.read_long.Statement.{statement}
 use Rattle.wire.proofs.read_long.Tie as tie
 
--- needs: needs, bytes, longs
+-- needs: rules, bytes, longs
 pub read_long_spec : {M : Type 1} → statement M
 read_long_spec =
     tie.close

@@ -5,7 +5,7 @@ use Rattle.wire.proofs.Sizes.{sizes}
 use Rattle.wire.proofs.read_size.Statement.{statement}
 use Rattle.wire.proofs.read_size.Tie as tie
 
--- needs: needs, bytes, sizes
+-- needs: rules, bytes, sizes
 pub read_size_spec : {M : Type 1} → statement M
 read_size_spec =
     tie.close

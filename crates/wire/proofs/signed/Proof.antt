@@ -4,7 +4,7 @@ use Rattle.wire.proofs.Signs.{signs}
 use Rattle.wire.proofs.signed.Statement.{statement}
 use Rattle.wire.proofs.signed.Tie as tie
 
--- needs: needs, signs
+-- needs: rules, signs
 pub signed_spec : {M : Type 1} → statement M
 signed_spec =
     tie.close

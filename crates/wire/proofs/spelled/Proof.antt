@@ -5,7 +5,7 @@ use Rattle.wire.specs.Leads.{spelled}
 use Rattle.wire.proofs.spelled.Statement.{statement}
 use Rattle.wire.proofs.spelled.Tie as tie
 
--- needs: needs, tests | spelled
+-- needs: rules, tests | spelled
 pub spelled_spec : {M : Type 1} → statement M
 unfolding spelled
 spelled_spec =

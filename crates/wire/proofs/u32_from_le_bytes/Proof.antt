@@ -4,7 +4,7 @@ use Rattle.wire.proofs.Leads.{leads}
 use Rattle.wire.proofs.u32_from_le_bytes.Statement.{statement}
 use Rattle.wire.proofs.u32_from_le_bytes.Tie as tie
 
--- needs: needs, leads
+-- needs: rules, leads
 pub u32_from_le_bytes_spec : {M : Type 1} → statement M
 u32_from_le_bytes_spec =
     tie.close

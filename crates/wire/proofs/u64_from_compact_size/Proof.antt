@@ -4,7 +4,7 @@ use Rattle.format.specs.Compact.{count}
 use Rattle.wire.proofs.u64_from_compact_size.Statement.{statement}
 use Rattle.wire.proofs.u64_from_compact_size.Tie as tie
 
--- needs: needs | count
+-- needs: rules | count
 pub u64_from_compact_size_spec : {M : Type 1} → statement M
 unfolding count
 u64_from_compact_size_spec =

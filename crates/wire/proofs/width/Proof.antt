@@ -4,7 +4,7 @@ use Rattle.wire.proofs.Sizes.{widths}
 use Rattle.wire.proofs.width.Statement.{statement}
 use Rattle.wire.proofs.width.Tie as tie
 
--- needs: needs, widths
+-- needs: rules, widths
 pub width_spec : {M : Type 1} → statement M
 width_spec =
     tie.close

@@ -4,7 +4,7 @@ use Rattle.witness_utxo.proofs.Utxos.{utxo_of_lem}
 use Rattle.witness_utxo.proofs.get_witness_utxo.Statement.{statement}
 use Rattle.witness_utxo.proofs.get_witness_utxo.Tie as tie
 
--- needs: needs, utxo-of
+-- needs: rules, utxo_of_lem
 pub get_witness_utxo_spec : {M : Type 1} → statement M
 get_witness_utxo_spec =
     tie.close

@@ -4,7 +4,7 @@ use Rattle.witness_utxo.proofs.Utxos.{script_of_lem}
 use Rattle.witness_utxo.proofs.get_witness_utxo_script.Statement.{statement}
 use Rattle.witness_utxo.proofs.get_witness_utxo_script.Tie as tie
 
--- needs: needs, script-of
+-- needs: rules, script_of_lem
 pub get_witness_utxo_script_spec : {M : Type 1} → statement M
 get_witness_utxo_script_spec =
     tie.close

@@ -5,7 +5,7 @@ use Rattle.witness_utxo.proofs.Utxos.{utxos}
 use Rattle.witness_utxo.proofs.utxo_at.Statement.{statement}
 use Rattle.witness_utxo.proofs.utxo_at.Tie as tie
 
--- needs: needs, byte_fits, utxos
+-- needs: rules, byte_fits, utxos
 pub utxo_at_spec : {M : Type 1} → statement M
 utxo_at_spec =
     tie.close

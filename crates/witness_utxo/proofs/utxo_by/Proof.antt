@@ -4,7 +4,7 @@ use Rattle.witness_utxo.proofs.Utxos.{utxos_by}
 use Rattle.witness_utxo.proofs.utxo_by.Statement.{statement}
 use Rattle.witness_utxo.proofs.utxo_by.Tie as tie
 
--- needs: needs, utxos-by
+-- needs: rules, utxos_by
 pub utxo_by_spec : {M : Type 1} → statement M
 utxo_by_spec =
     tie.close

@@ -4,7 +4,7 @@ use Rattle.witness_utxo.proofs.Utxos.{scripts}
 use Rattle.witness_utxo.proofs.utxo_part.Statement.{statement}
 use Rattle.witness_utxo.proofs.utxo_part.Tie as tie
 
--- needs: needs, scripts
+-- needs: rules, scripts
 pub utxo_part_spec : {M : Type 1} → statement M
 utxo_part_spec =
     tie.close

@@ -12,7 +12,7 @@ invariant-loop buf₀ at src j₀ buf j = Copying buf₀ at src buf j
 abbrev decreases-loop : tie.decreases-loop-j
 decreases-loop buf₀ at src j₀ buf j = length src - j
 
--- needs: needs, copies
+-- needs: rules, copies
 pub put_bytes_spec : {M : Type 1} → statement M
 put_bytes_spec =
     tie.close

@@ -11,7 +11,7 @@ invariant-loop buf₀ at value width left₀ j₀ buf left j = Putting buf₀ at
 abbrev decreases-loop : tie.decreases-loop-j
 decreases-loop buf₀ at value width left₀ j₀ buf left j = width - j
 
--- needs: needs, puts
+-- needs: rules, puts
 pub put_le_spec : {M : Type 1} → statement M
 put_le_spec =
     tie.close

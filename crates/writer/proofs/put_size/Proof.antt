@@ -4,7 +4,7 @@ use Rattle.writer.proofs.Puts.{spelt}
 use Rattle.writer.proofs.put_size.Statement.{statement}
 use Rattle.writer.proofs.put_size.Tie as tie
 
--- needs: needs, spelt
+-- needs: rules, spelt
 pub put_size_spec : {M : Type 1} → statement M
 put_size_spec =
     tie.close

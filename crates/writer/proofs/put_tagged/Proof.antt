@@ -4,7 +4,7 @@ use Rattle.writer.proofs.Puts.{tagged}
 use Rattle.writer.proofs.put_tagged.Statement.{statement}
 use Rattle.writer.proofs.put_tagged.Tie as tie
 
--- needs: needs, tagged
+-- needs: rules, tagged
 pub put_tagged_spec : {M : Type 1} → statement M
 put_tagged_spec =
     tie.close

@@ -4,7 +4,7 @@ use Rattle.writer.proofs.Puts.{sizes}
 use Rattle.writer.proofs.size_len.Statement.{statement}
 use Rattle.writer.proofs.size_len.Tie as tie
 
--- needs: needs, sizes
+-- needs: rules, sizes
 pub size_len_spec : {M : Type 1} → statement M
 size_len_spec =
     tie.close

@@ -10,7 +10,7 @@ invariant-loop body at count args₀ to₀ i₀ args to i = Unit {0}
 abbrev decreases-loop : tie.decreases-loop-i
 decreases-loop body at count args₀ to₀ i₀ args to i = 8 - i
 
--- needs: needs
+-- needs: rules
 pub read_args_spec : {M : Type 1} → statement M
 read_args_spec =
     tie.close

@@ -12,7 +12,7 @@ invariant-loop out₀ at cells to₀ i₀ out to i = length out ≡ length out�
 abbrev decreases-loop : tie.decreases-loop-i
 decreases-loop out₀ at cells to₀ i₀ out to i = length cells - i
 
--- needs: needs
+-- needs: rules
 pub put_cells_spec : {M : Type 1} → statement M
 put_cells_spec =
     tie.close

@@ -12,7 +12,7 @@ invariant-loop out₀ at words to₀ end₀ i₀ out to end i = length out ≡ l
 abbrev decreases-loop : tie.decreases-loop-i
 decreases-loop out₀ at words to₀ end₀ i₀ out to end i = length words - i
 
--- needs: needs
+-- needs: rules
 pub put_words_spec : {M : Type 1} → statement M
 put_words_spec =
     tie.close

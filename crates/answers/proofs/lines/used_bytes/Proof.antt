@@ -11,7 +11,7 @@ invariant-loop bytes n₀ n = n ≤ length bytes
 abbrev decreases-loop : tie.decreases-loop-n
 decreases-loop bytes n₀ n = n
 
--- needs: needs
+-- needs: rules
 pub used_bytes_spec : {M : Type 1} → statement M
 used_bytes_spec =
     tie.close

@@ -11,7 +11,7 @@ invariant-loop table n₀ n = n ≤ length table
 abbrev decreases-loop : tie.decreases-loop-n
 decreases-loop table n₀ n = n
 
--- needs: needs
+-- needs: rules
 pub used_cells_spec : {M : Type 1} → statement M
 used_cells_spec =
     tie.close

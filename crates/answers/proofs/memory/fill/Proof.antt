@@ -12,7 +12,7 @@ invariant-loop texts₀ from end i₀ texts i = length texts ≡ length texts₀
 abbrev decreases-loop : tie.decreases-loop-i
 decreases-loop texts₀ from end i₀ texts i = length texts₀ - i
 
--- needs: needs
+-- needs: rules
 pub fill_spec : {M : Type 1} → statement M
 fill_spec =
     tie.close

@@ -12,7 +12,7 @@ invariant-loop table₀ bytes i₀ table i = length table ≡ length table₀
 abbrev decreases-loop : tie.decreases-loop-i
 decreases-loop table₀ bytes i₀ table i = length table₀ - i
 
--- needs: needs
+-- needs: rules
 pub store_cells_spec : {M : Type 1} → statement M
 store_cells_spec =
     tie.close

@@ -12,7 +12,7 @@ invariant-loop list₀ bytes i₀ list i = length list ≡ length list₀
 abbrev decreases-loop : tie.decreases-loop-i
 decreases-loop list₀ bytes i₀ list i = length list₀ - i
 
--- needs: needs
+-- needs: rules
 pub store_numbers_spec : {M : Type 1} → statement M
 store_numbers_spec =
     tie.close

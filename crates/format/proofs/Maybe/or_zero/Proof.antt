@@ -4,7 +4,7 @@ use Rattle.format.proofs.Maybes.{maybes}
 use Rattle.format.proofs.Maybe.or_zero.Statement.{statement}
 use Rattle.format.proofs.Maybe.or_zero.Tie as tie
 
--- needs: needs, maybes
+-- needs: rules, maybes
 pub or_zero_spec : {M : Type 1} → statement M
 or_zero_spec =
     tie.close

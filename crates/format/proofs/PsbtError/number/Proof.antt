@@ -5,7 +5,7 @@ use Rattle.format.proofs.Refusals.{numbered}
 use Rattle.format.proofs.PsbtError.number.Statement.{statement}
 use Rattle.format.proofs.PsbtError.number.Tie as tie
 
--- needs: needs, numbered | number_of
+-- needs: rules, numbered | number_of
 pub number_spec : {M : Type 1} → statement M
 unfolding number_of
 number_spec =

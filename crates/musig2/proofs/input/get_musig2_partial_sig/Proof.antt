@@ -6,7 +6,7 @@ use Rattle.musig2.proofs.Joins.{of_maps}
 use Rattle.musig2.proofs.input.get_musig2_partial_sig.Statement.{statement}
 use Rattle.musig2.proofs.input.get_musig2_partial_sig.Tie as tie
 
--- needs: needs, fits, input-held, of-maps | partialSig
+-- needs: rules, fits, input_held, of_maps | partial_sig
 pub get_musig2_partial_sig_spec : {M : Type 1} → statement M
 unfolding partial_sig
 get_musig2_partial_sig_spec =

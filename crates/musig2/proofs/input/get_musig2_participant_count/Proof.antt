@@ -4,7 +4,7 @@ use Rattle.musig2.proofs.Participants.{lists}
 use Rattle.musig2.proofs.input.get_musig2_participant_count.Statement.{statement}
 use Rattle.musig2.proofs.input.get_musig2_participant_count.Tie as tie
 
--- needs: needs, lists
+-- needs: rules, lists
 pub get_musig2_participant_count_spec : {M : Type 1} → statement M
 get_musig2_participant_count_spec =
     tie.close

@@ -5,7 +5,7 @@ use Rattle.musig2.proofs.Joins.{of_maps}
 use Rattle.musig2.proofs.input.get_musig2_participant_pubkeys.Statement.{statement}
 use Rattle.musig2.proofs.input.get_musig2_participant_pubkeys.Tie as tie
 
--- needs: needs, fits, input-held, of-maps
+-- needs: rules, fits, input_held, of_maps
 pub get_musig2_participant_pubkeys_spec : {M : Type 1} → statement M
 get_musig2_participant_pubkeys_spec =
     tie.close

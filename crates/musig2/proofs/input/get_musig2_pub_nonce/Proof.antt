@@ -6,7 +6,7 @@ use Rattle.musig2.proofs.Joins.{of_maps}
 use Rattle.musig2.proofs.input.get_musig2_pub_nonce.Statement.{statement}
 use Rattle.musig2.proofs.input.get_musig2_pub_nonce.Tie as tie
 
--- needs: needs, fits, input-held, of-maps | pubNonce
+-- needs: rules, fits, input_held, of_maps | pub_nonce
 pub get_musig2_pub_nonce_spec : {M : Type 1} → statement M
 unfolding pub_nonce
 get_musig2_pub_nonce_spec =

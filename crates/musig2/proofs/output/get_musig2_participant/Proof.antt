@@ -4,7 +4,7 @@ use Rattle.musig2.proofs.Participants.{lists}
 use Rattle.musig2.proofs.output.get_musig2_participant.Statement.{statement}
 use Rattle.musig2.proofs.output.get_musig2_participant.Tie as tie
 
--- needs: needs, lists
+-- needs: rules, lists
 pub get_musig2_participant_spec : {M : Type 1} → statement M
 get_musig2_participant_spec =
     tie.close

@@ -5,7 +5,7 @@ use Rattle.musig2.proofs.Joins.{of_maps}
 use Rattle.musig2.proofs.output.get_musig2_participant_pubkeys.Statement.{statement}
 use Rattle.musig2.proofs.output.get_musig2_participant_pubkeys.Tie as tie
 
--- needs: needs, fits, output-held, of-maps
+-- needs: rules, fits, output_held, of_maps
 pub get_musig2_participant_pubkeys_spec : {M : Type 1} → statement M
 get_musig2_participant_pubkeys_spec =
     tie.close

@@ -6,7 +6,7 @@ use Rattle.silent_payments.proofs.Scans.{scan_of}
 use Rattle.silent_payments.proofs.global.get_sp_dleq_proof.Statement.{statement}
 use Rattle.silent_payments.proofs.global.get_sp_dleq_proof.Tie as tie
 
--- needs: needs, fits, map-held, scan-of | globalProof
+-- needs: rules, fits, map_held, scan_of | global_proof
 pub get_sp_dleq_proof_spec : {M : Type 1} → statement M
 unfolding global_proof
 get_sp_dleq_proof_spec =

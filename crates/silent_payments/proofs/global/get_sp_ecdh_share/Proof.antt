@@ -6,7 +6,7 @@ use Rattle.silent_payments.proofs.Scans.{scan_of}
 use Rattle.silent_payments.proofs.global.get_sp_ecdh_share.Statement.{statement}
 use Rattle.silent_payments.proofs.global.get_sp_ecdh_share.Tie as tie
 
--- needs: needs, fits, map-held, scan-of | globalShare
+-- needs: rules, fits, map_held, scan_of | global_share
 pub get_sp_ecdh_share_spec : {M : Type 1} → statement M
 unfolding global_share
 get_sp_ecdh_share_spec =

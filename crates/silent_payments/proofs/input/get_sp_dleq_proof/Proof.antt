@@ -6,7 +6,7 @@ use Rattle.silent_payments.proofs.Scans.{scan_of}
 use Rattle.silent_payments.proofs.input.get_sp_dleq_proof.Statement.{statement}
 use Rattle.silent_payments.proofs.input.get_sp_dleq_proof.Tie as tie
 
--- needs: needs, fits, input-held, scan-of | inputProof
+-- needs: rules, fits, input_held, scan_of | input_proof
 pub get_sp_dleq_proof_spec : {M : Type 1} → statement M
 unfolding input_proof
 get_sp_dleq_proof_spec =

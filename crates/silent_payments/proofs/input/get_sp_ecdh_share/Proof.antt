@@ -6,7 +6,7 @@ use Rattle.silent_payments.proofs.Scans.{scan_of}
 use Rattle.silent_payments.proofs.input.get_sp_ecdh_share.Statement.{statement}
 use Rattle.silent_payments.proofs.input.get_sp_ecdh_share.Tie as tie
 
--- needs: needs, fits, input-held, scan-of | inputShare
+-- needs: rules, fits, input_held, scan_of | input_share
 pub get_sp_ecdh_share_spec : {M : Type 1} → statement M
 unfolding input_share
 get_sp_ecdh_share_spec =

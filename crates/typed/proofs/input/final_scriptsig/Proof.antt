@@ -5,7 +5,7 @@ use Rattle.lookup.specs.Finds.{length_of}
 use Rattle.typed.proofs.input.final_scriptsig.Statement.{statement}
 use Rattle.typed.proofs.input.final_scriptsig.Tie as tie
 
--- needs: needs | finalScriptsig length_of
+-- needs: rules | final_scriptsig length_of
 pub final_scriptsig_spec : {M : Type 1} → statement M
 unfolding final_scriptsig length_of
 final_scriptsig_spec =

@@ -5,7 +5,7 @@ use Rattle.lookup.specs.Finds.{length_of}
 use Rattle.typed.proofs.input.final_scriptwitness.Statement.{statement}
 use Rattle.typed.proofs.input.final_scriptwitness.Tie as tie
 
--- needs: needs | finalScriptwitness length_of
+-- needs: rules | final_scriptwitness length_of
 pub final_scriptwitness_spec : {M : Type 1} → statement M
 unfolding final_scriptwitness length_of
 final_scriptwitness_spec =

@@ -5,7 +5,7 @@ use Rattle.lookup.proofs.Lists.{list_is}
 use Rattle.typed.proofs.input.iter_keys.Statement.{statement}
 use Rattle.typed.proofs.input.iter_keys.Tie as tie
 
--- needs: needs, fits, input-held, list-is
+-- needs: rules, fits, input_held, list_is
 pub iter_keys_spec : {M : Type 1} → statement M
 iter_keys_spec =
     tie.close

@@ -5,7 +5,7 @@ use Rattle.lookup.specs.Finds.{length_of}
 use Rattle.typed.proofs.input.non_witness_utxo.Statement.{statement}
 use Rattle.typed.proofs.input.non_witness_utxo.Tie as tie
 
--- needs: needs | nonWitnessUtxo length_of
+-- needs: rules | non_witness_utxo length_of
 pub non_witness_utxo_spec : {M : Type 1} → statement M
 unfolding non_witness_utxo length_of
 non_witness_utxo_spec =

@@ -5,7 +5,7 @@ use Rattle.lookup.specs.Finds.{length_of}
 use Rattle.typed.proofs.input.previous_txid.Statement.{statement}
 use Rattle.typed.proofs.input.previous_txid.Tie as tie
 
--- needs: needs | previousTxid length_of
+-- needs: rules | previous_txid length_of
 pub previous_txid_spec : {M : Type 1} → statement M
 unfolding previous_txid length_of
 previous_txid_spec =

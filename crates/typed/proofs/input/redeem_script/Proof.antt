@@ -5,7 +5,7 @@ use Rattle.lookup.specs.Finds.{length_of}
 use Rattle.typed.proofs.input.redeem_script.Statement.{statement}
 use Rattle.typed.proofs.input.redeem_script.Tie as tie
 
--- needs: needs | redeemScript length_of
+-- needs: rules | redeem_script length_of
 pub redeem_script_spec : {M : Type 1} → statement M
 unfolding redeem_script length_of
 redeem_script_spec =

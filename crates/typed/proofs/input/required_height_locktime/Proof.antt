@@ -4,7 +4,7 @@ use Rattle.format.specs.Fields.{required_height_locktime}
 use Rattle.typed.proofs.input.required_height_locktime.Statement.{statement}
 use Rattle.typed.proofs.input.required_height_locktime.Tie as tie
 
--- needs: needs | requiredHeightLocktime
+-- needs: rules | required_height_locktime
 pub required_height_locktime_spec : {M : Type 1} → statement M
 unfolding required_height_locktime
 required_height_locktime_spec =

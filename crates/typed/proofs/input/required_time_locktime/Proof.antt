@@ -4,7 +4,7 @@ use Rattle.format.specs.Fields.{required_time_locktime}
 use Rattle.typed.proofs.input.required_time_locktime.Statement.{statement}
 use Rattle.typed.proofs.input.required_time_locktime.Tie as tie
 
--- needs: needs | requiredTimeLocktime
+-- needs: rules | required_time_locktime
 pub required_time_locktime_spec : {M : Type 1} → statement M
 unfolding required_time_locktime
 required_time_locktime_spec =

@@ -4,7 +4,7 @@ use Rattle.format.specs.Fields.{sequence}
 use Rattle.typed.proofs.input.sequence.Statement.{statement}
 use Rattle.typed.proofs.input.sequence.Tie as tie
 
--- needs: needs | sequence
+-- needs: rules | sequence
 pub sequence_spec : {M : Type 1} → statement M
 unfolding sequence
 sequence_spec =

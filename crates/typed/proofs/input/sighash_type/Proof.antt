@@ -4,7 +4,7 @@ use Rattle.format.specs.Fields.{sighash_type}
 use Rattle.typed.proofs.input.sighash_type.Statement.{statement}
 use Rattle.typed.proofs.input.sighash_type.Tie as tie
 
--- needs: needs | sighashType
+-- needs: rules | sighash_type
 pub sighash_type_spec : {M : Type 1} → statement M
 unfolding sighash_type
 sighash_type_spec =

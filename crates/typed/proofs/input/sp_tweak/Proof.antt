@@ -5,7 +5,7 @@ use Rattle.lookup.specs.Finds.{length_of}
 use Rattle.typed.proofs.input.sp_tweak.Statement.{statement}
 use Rattle.typed.proofs.input.sp_tweak.Tie as tie
 
--- needs: needs | spTweak length_of
+-- needs: rules | sp_tweak length_of
 pub sp_tweak_spec : {M : Type 1} → statement M
 unfolding sp_tweak length_of
 sp_tweak_spec =

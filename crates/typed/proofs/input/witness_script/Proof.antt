@@ -5,7 +5,7 @@ use Rattle.lookup.specs.Finds.{length_of}
 use Rattle.typed.proofs.input.witness_script.Statement.{statement}
 use Rattle.typed.proofs.input.witness_script.Tie as tie
 
--- needs: needs | witnessScript length_of
+-- needs: rules | witness_script length_of
 pub witness_script_spec : {M : Type 1} → statement M
 unfolding witness_script length_of
 witness_script_spec =

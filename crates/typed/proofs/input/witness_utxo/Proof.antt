@@ -5,7 +5,7 @@ use Rattle.lookup.specs.Finds.{length_of}
 use Rattle.typed.proofs.input.witness_utxo.Statement.{statement}
 use Rattle.typed.proofs.input.witness_utxo.Tie as tie
 
--- needs: needs | witnessUtxo length_of
+-- needs: rules | witness_utxo_def length_of
 pub witness_utxo_spec : {M : Type 1} → statement M
 unfolding witness_utxo_def length_of
 witness_utxo_spec =

@@ -4,7 +4,7 @@ use Rattle.format.specs.Fields.{amount}
 use Rattle.typed.proofs.output.amount.Statement.{statement}
 use Rattle.typed.proofs.output.amount.Tie as tie
 
--- needs: needs | amount
+-- needs: rules | amount
 pub amount_spec : {M : Type 1} → statement M
 unfolding amount
 amount_spec =

@@ -5,7 +5,7 @@ use Rattle.lookup.specs.Finds.{length_of}
 use Rattle.typed.proofs.output.redeem_script.Statement.{statement}
 use Rattle.typed.proofs.output.redeem_script.Tie as tie
 
--- needs: needs | outRedeemScript length_of
+-- needs: rules | out_redeem_script length_of
 pub redeem_script_spec : {M : Type 1} → statement M
 unfolding out_redeem_script length_of
 redeem_script_spec =

@@ -5,7 +5,7 @@ use Rattle.lookup.specs.Finds.{length_of}
 use Rattle.typed.proofs.output.script.Statement.{statement}
 use Rattle.typed.proofs.output.script.Tie as tie
 
--- needs: needs | script length_of
+-- needs: rules | script length_of
 pub script_spec : {M : Type 1} → statement M
 unfolding script length_of
 script_spec =

@@ -5,7 +5,7 @@ use Rattle.lookup.specs.Finds.{length_of}
 use Rattle.typed.proofs.output.sp_v0_info.Statement.{statement}
 use Rattle.typed.proofs.output.sp_v0_info.Tie as tie
 
--- needs: needs | spV0Info length_of
+-- needs: rules | sp_v0_info length_of
 pub sp_v0_info_spec : {M : Type 1} → statement M
 unfolding sp_v0_info length_of
 sp_v0_info_spec =

@@ -4,7 +4,7 @@ use Rattle.format.specs.Fields.{sp_v0_label}
 use Rattle.typed.proofs.output.sp_v0_label.Statement.{statement}
 use Rattle.typed.proofs.output.sp_v0_label.Tie as tie
 
--- needs: needs | spV0Label
+-- needs: rules | sp_v0_label
 pub sp_v0_label_spec : {M : Type 1} → statement M
 unfolding sp_v0_label
 sp_v0_label_spec =

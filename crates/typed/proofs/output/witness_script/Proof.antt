@@ -5,7 +5,7 @@ use Rattle.lookup.specs.Finds.{length_of}
 use Rattle.typed.proofs.output.witness_script.Statement.{statement}
 use Rattle.typed.proofs.output.witness_script.Tie as tie
 
--- needs: needs | outWitnessScript length_of
+-- needs: rules | out_witness_script length_of
 pub witness_script_spec : {M : Type 1} → statement M
 unfolding out_witness_script length_of
 witness_script_spec =

@@ -4,7 +4,7 @@ use Rattle.wire.proofs.Cursors.{ats}
 use Rattle.wire.proofs.Cursor.read_compact_size.Statement.{statement}
 use Rattle.wire.proofs.Cursor.read_compact_size.Tie as tie
 
--- needs: needs, ats
+-- needs: rules, ats
 pub read_compact_size_spec : {M : Type 1} → statement M
 read_compact_size_spec =
     tie.close

@@ -4,7 +4,7 @@ use Rattle.wire.proofs.Cursors.{prefixes}
 use Rattle.wire.proofs.Cursor.read_len_prefixed.Statement.{statement}
 use Rattle.wire.proofs.Cursor.read_len_prefixed.Tie as tie
 
--- needs: needs, prefixes
+-- needs: rules, prefixes
 pub read_len_prefixed_spec : {M : Type 1} → statement M
 read_len_prefixed_spec =
     tie.close

@@ -4,7 +4,7 @@ use Rattle.wire.proofs.Cursors.{lefts}
 use Rattle.wire.proofs.Cursor.remaining.Statement.{statement}
 use Rattle.wire.proofs.Cursor.remaining.Tie as tie
 
--- needs: needs, lefts
+-- needs: rules, lefts
 pub remaining_spec : {M : Type 1} → statement M
 remaining_spec =
     tie.close

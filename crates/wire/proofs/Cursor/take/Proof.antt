@@ -4,7 +4,7 @@ use Rattle.wire.proofs.Cursors.{takes}
 use Rattle.wire.proofs.Cursor.take.Statement.{statement}
 use Rattle.wire.proofs.Cursor.take.Tie as tie
 
--- needs: needs, takes
+-- needs: rules, takes
 pub take_spec : {M : Type 1} → statement M
 take_spec =
     tie.close
