@@ -29,7 +29,7 @@ use Rattle.claims_reading.proofs.Found.{find_bare}
 use Rattle.claims_calls.specs.Answers.{look_in_def, count_in, participant_in, utxo_in, script_in, list_in, nth_in_def}
 use Rattle.claims_calls.specs.Newer.{AddedFile, strike, strike_map, struck, kinds, asks, report_of, ins_of, outs_of, Alike}
 use Rattle.claims_calls.specs.Calls.{ParsesTo, bytes_by, OfMap, SameCalls}
-use Rattle.claims_calls.proofs.Shapes.{held_sound, input_sound, output_sound, By, asked_by, count_by, participant_by, part_in_lem, part_in}
+use Rattle.claims_calls.proofs.Shapes.{held_sound, input_sound, output_sound, By, asked_by, count_by, participant_by, part_in_def, part_in}
 use Rattle.claims_calls.proofs.Shapes.{part_by, utxo_by_lem, utxo_part_by, bytes_with, script_by_lem, script_part_by, list_by, nth_by_lem}
 use Rattle.claims_calls.proofs.Views.{input_shows, output_shows}
 use Rattle.claims_calls.proofs.Agree.{Agree, agree_by, call_alike, look_alike, bytes_alike, number_alike, pairs_alike, script_goes}
@@ -156,7 +156,7 @@ module _ (f : List ℕ) (c : Content) (P M : List ℕ) (e : reading f ≡ accept
       input_share input_proof pub_nonce partial_sig input_participants output_participants asks kinds listed type_of key_of within listed_types span
   same_calls = record {
     report = a.same_report;
-    part_of = λ y z h. part_in f y ∙ ap (part_in_lem (λ v. v)) h ∙ sym (part_in g z);
+    part_of = λ y z h. part_in f y ∙ ap (part_in_def (λ v. v)) h ∙ sym (part_in g z);
     global_shows = global_agree.same;
     input_shows = λ i. (input_agree i).same;
     output_shows = λ i. (output_agree i).same;
@@ -166,8 +166,8 @@ module _ (f : List ℕ) (c : Content) (P M : List ℕ) (e : reading f ≡ accept
     input_numbers = λ t w h i. number_alike (input_agree i) t w h;
     output_numbers = λ t w h i. number_alike (output_agree i) t w h;
     map_get = λ m t x h. map_bytes_lem true any_length (key_of t x) m h;
-    map_get_part = λ m t x h. of_map _ (λ v. part_in_lem (λ y. y) (look_in_def true any_length (key_of t x) v))
-        (part_by true any_length (key_of t x)) m (ap (part_in_lem (λ y. y)) (a.same_lookups m (key_of t x) h true any_length));
+    map_get_part = λ m t x h. of_map _ (λ v. part_in_def (λ y. y) (look_in_def true any_length (key_of t x) v))
+        (part_by true any_length (key_of t x)) m (ap (part_in_def (λ y. y)) (a.same_lookups m (key_of t x) h true any_length));
     map_list = λ m t h. of_map _ (list_in t) (list_by t) m (a.same_lists m t h);
     map_nth = λ m t j h. of_map _ (λ v. nth_in_def j (list_in t v)) (nth_by_lem t j) m (ap (nth_in_def j) (a.same_lists m t h));
     input_iter_keys = λ t h i. pairs_alike (input_agree i) t h;
@@ -201,7 +201,7 @@ module _ (f : List ℕ) (c : Content) (P M : List ℕ) (e : reading f ≡ accept
     input_get_musig2_participant_count = λ x l i. look_alike (input_agree i) _ count_in _ _ _ (count_by _ _ _) refl;
     input_get_musig2_participant = λ x l n i. look_alike (input_agree i) _ (participant_in n) _ _ _ (participant_by _ _ _ n) refl;
     input_get_witness_utxo = λ i. look_alike (input_agree i) _ utxo_in _ _ _ utxo_by_lem refl;
-    input_get_witness_utxo_script = λ i. look_alike (input_agree i) _ (λ y. part_in_lem (λ z. z.1) (utxo_in y)) _ _ _ utxo_part_by refl;
+    input_get_witness_utxo_script = λ i. look_alike (input_agree i) _ (λ y. part_in_def (λ z. z.1) (utxo_in y)) _ _ _ utxo_part_by refl;
     output_redeem_script = λ i. bytes_alike (output_agree i) _ _ _ refl;
     output_witness_script = λ i. bytes_alike (output_agree i) _ _ _ refl;
     output_amount = λ i. number_alike (output_agree i) _ _ refl;
@@ -214,7 +214,7 @@ module _ (f : List ℕ) (c : Content) (P M : List ℕ) (e : reading f ≡ accept
     output_get_musig2_participant = λ x n i. look_alike (output_agree i) _ (participant_in n) _ _ _ (participant_by _ _ _ n) refl;
     output_output_script = λ t T n i. call_alike (output_agree i) _ (script_in t T n) (script_by_lem t T n) (script_goes t T n);
     output_output_script_part = λ t T n i. call_alike (output_agree i) _
-        (λ v. part_in_lem (bytes_with T) (script_in t T n v)) (script_part_by t T n) (λ ps. ap (part_in_lem (bytes_with T)) (script_goes t T n ps));
+        (λ v. part_in_def (bytes_with T) (script_in t T n v)) (script_part_by t T n) (λ ps. ap (part_in_def (bytes_with T)) (script_goes t T n ps));
     lock_decided_lem = by_report lock_by;
     set_sp_output_scripts = λ x buffer t T. by_report (λ s r. set_by buffer t T x r);
     unsigned_tx_lem = λ t T B. by_report (λ s r. written t B (tx_reported s t T r));

@@ -207,19 +207,19 @@ nth_in f j i n es =
     ∙ pair_take n j (drop i (map (shown f) es))
 
 -- the part that is handed back: empty for absence and refusal
-unfoldable pub part_in_lem : {A : Type 0} → (A → List ℕ) → Answer A → List ℕ
-part_in_lem k (refuses e) = []
-part_in_lem k lacks = []
-part_in_lem k (gives x) = k x
+unfoldable pub part_in_def : {A : Type 0} → (A → List ℕ) → Answer A → List ℕ
+part_in_def k (refuses e) = []
+part_in_def k lacks = []
+part_in_def k (gives x) = k x
 
-pub part_in : (f : List ℕ) (y : Looked) → part f y ≡ part_in_lem (λ v. v) (answer_at f y)
-unfolding part part_in_lem answer_at
+pub part_in : (f : List ℕ) (y : Looked) → part f y ≡ part_in_def (λ v. v) (answer_at f y)
+unfolding part part_in_def answer_at
 part_in f (Refused e) = refl
 part_in f Absent = refl
 part_in f (At s n) = refl
 
-utxo_part_lem : (f : List ℕ) (y : Utxo) → utxo_part f y ≡ part_in_lem (λ x. x.1) (utxo_at f y)
-unfolding utxo_part part_in_lem utxo_at
+utxo_part_lem : (f : List ℕ) (y : Utxo) → utxo_part f y ≡ part_in_def (λ x. x.1) (utxo_at f y)
+unfolding utxo_part part_in_def utxo_at
 utxo_part_lem f (U.Refused e) = refl
 utxo_part_lem f U.Absent = refl
 utxo_part_lem f (U.Is a s n) = refl
@@ -229,8 +229,8 @@ unfoldable pub bytes_with : List ℕ → Script → List ℕ
 bytes_with T (S.in_file v) = v
 bytes_with T (S.in_table s n) = take n (drop s T)
 
-script_part_lem : (f T : List ℕ) (y : OutputScript) → script_part f T y ≡ part_in_lem (bytes_with T) (script_at f y)
-unfolding script_part part_in_lem script_at bytes_with
+script_part_lem : (f T : List ℕ) (y : OutputScript) → script_part f T y ≡ part_in_def (bytes_with T) (script_at f y)
+unfolding script_part part_in_def script_at bytes_with
 script_part_lem f T (O.Refused e) = refl
 script_part_lem f T O.Absent = refl
 script_part_lem f T (O.InFile s n) = refl
@@ -266,15 +266,15 @@ module _ (ok : Bool) (l : Length) (key : List ℕ) where
   pub participant_by : (n : ℕ) → By (λ f h. answer_at f (participant n (asked ok l f key h))) (λ v. participant_in n (look_in_def ok l key v))
   participant_by n f h s = participant_in_lem f n _ (asked_lies ok l key f h s) ∙ ap (participant_in n) (asked_by ok l key f h s)
 
-  pub part_by : By (λ f h. part f (asked ok l f key h)) (λ v. part_in_lem (λ x. x) (look_in_def ok l key v))
-  part_by f h s = part_in f _ ∙ ap (part_in_lem (λ x. x)) (asked_by ok l key f h s)
+  pub part_by : By (λ f h. part f (asked ok l f key h)) (λ v. part_in_def (λ x. x) (look_in_def ok l key v))
+  part_by f h s = part_in f _ ∙ ap (part_in_def (λ x. x)) (asked_by ok l key f h s)
 
 pub utxo_by_lem : By (λ f h. utxo_at f (get_witness_utxo f h)) (λ v. utxo_in (look_in_def true any_length (key_of 0x01 []) v))
 unfolding get_witness_utxo witness_utxo_def part_field_def
 utxo_by_lem f h s = utxo_in_lem f _ ∙ ap utxo_in (asked_by true any_length (key_of 0x01 []) f h s)
 
-pub utxo_part_by : By (λ f h. utxo_part f (get_witness_utxo f h)) (λ v. part_in_lem (λ x. x.1) (utxo_in (look_in_def true any_length (key_of 0x01 []) v)))
-utxo_part_by f h s = utxo_part_lem f _ ∙ ap (part_in_lem (λ x. x.1)) (utxo_by_lem f h s)
+pub utxo_part_by : By (λ f h. utxo_part f (get_witness_utxo f h)) (λ v. part_in_def (λ x. x.1) (utxo_in (look_in_def true any_length (key_of 0x01 []) v)))
+utxo_part_by f h s = utxo_part_lem f _ ∙ ap (part_in_def (λ x. x.1)) (utxo_by_lem f h s)
 
 pub script_by_lem : (t : State) (T : List ℕ) (n : ℕ) → By (λ f h. script_at f (output_script_def f t T n h)) (script_in t T n)
 unfolding output_script_def script_in view_of script_at field
@@ -285,8 +285,8 @@ script_by_lem t T n f (holds es) s =
     ∙ ap (λ (x : Answer Script). pick b x (refuses BadIndex)) (script_in_lem f (key_of 0x04 []) t n es)
 
 pub script_part_by : (t : State) (T : List ℕ) (n : ℕ)
-    → By (λ f h. script_part f T (output_script_def f t T n h)) (λ v. part_in_lem (bytes_with T) (script_in t T n v))
-script_part_by t T n f h s = script_part_lem f T _ ∙ ap (part_in_lem (bytes_with T)) (script_by_lem t T n f h s)
+    → By (λ f h. script_part f T (output_script_def f t T n h)) (λ v. part_in_def (bytes_with T) (script_in t T n v))
+script_part_by t T n f h s = script_part_lem f T _ ∙ ap (part_in_def (bytes_with T)) (script_by_lem t T n f h s)
 
 pub list_by : (t : ℕ) → By (λ f h. list_at f (list f t h) h) (list_in t)
 unfolding list list_at list_in view_of

@@ -8,7 +8,7 @@ use Rattle.format.specs.Parse.{ParseOut, out, parsed}
 use Rattle.format.specs.Tables.{view}
 use Rattle.format.specs.Transaction.{TxOut, tx_out, unsigned_tx_def}
 use Rattle.format.specs.Told.{told_parse, told_tx_out}
-use Rattle.format.specs.ExampleFiles.{height, time, script, file_fwith, pairs_e, psbt_e, psbt_f, fresh, tx_e, tx_f}
+use Rattle.format.specs.ExampleFiles.{height, time, script, file_f_with, pairs_e, psbt_e, psbt_f, fresh, tx_e, tx_f}
 use Rattle.format.specs.Computed.{computes}
 use Rattle.format.specs.declared.PsbtError.TheVariants.{BadValue}
 use Rattle.format.specs.declared.Psbt.{Psbt}
@@ -33,11 +33,11 @@ Fallen (accepted c) = FallenTimes (ins_of c)
 
 -- F asking for height 800,000
 abbrev pub file_h : List ℕ
-file_h = file_fwith [] (height 800_000) script
+file_h = file_f_with [] (height 800_000) script
 
 -- F asking for time 86,400
 abbrev pub file_t : List ℕ
-file_t = file_fwith [] (time 86_400) script
+file_t = file_f_with [] (time 86_400) script
 
 -- the pair table that the parse of either leaves
 abbrev pub table_left : List ℕ

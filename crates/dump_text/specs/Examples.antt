@@ -1,6 +1,6 @@
 -- Dumps that the definition gives, computed.
 use Rattle.std.specs.Prelude.{ℕ, ◌≡◌, refl, List, [], ◌∷◌}
-use Rattle.format.specs.ExampleFiles.{file_e, file_f, file_fwith, script, time}
+use Rattle.format.specs.ExampleFiles.{file_e, file_f, file_f_with, script, time}
 use Rattle.format.specs.Computed.{computes}
 use Rattle.rooms.specs.Rooms.{zeros}
 use Rattle.text.specs.Say.{say, lines}
@@ -83,6 +83,6 @@ text_early =
     ∷ [])
 
 -- so it prints
-pub dump_early : dump (file_fwith [] (time 499_999_999) script) ≡ text_early
+pub dump_early : dump (file_f_with [] (time 499_999_999) script) ≡ text_early
 unfolding prints
 dump_early = refl

@@ -67,12 +67,12 @@ abbrev pub file_e : List ℕ
 file_e = globals 0 0 [] []
 
 -- file F with a fallback, locks and output pairs of one's own
-abbrev pub file_fwith : List ℕ → List ℕ → List ℕ → List ℕ
-file_fwith early locks outs = globals 1 1 early [] ++ (txid ++ (output_index ++ (locks ++ (end ++ (amount ++ (outs ++ end))))))
+abbrev pub file_f_with : List ℕ → List ℕ → List ℕ → List ℕ
+file_f_with early locks outs = globals 1 1 early [] ++ (txid ++ (output_index ++ (locks ++ (end ++ (amount ++ (outs ++ end))))))
 
 -- file F
 abbrev pub file_f : List ℕ
-file_f = file_fwith [] [] script
+file_f = file_f_with [] [] script
 
 -- an output's code 09
 abbrev pub code : List ℕ

@@ -2,7 +2,8 @@
 use Rattle.std.specs.Prelude.{ℕ, ◌≡◌, refl, true, false, List, [], ◌∷◌, ◌++◌, map, replicate}
 use Rattle.format.specs.Content.{magic}
 use Rattle.format.specs.Told.{told, none, nat, flag, told_left}
-use Rattle.format.specs.ExampleFiles.{tx_version_def, fallback, input_count, output_count, version, end, time, height, script, file_e, file_fwith, file_f, tx_e}
+use Rattle.format.specs.ExampleFiles.{tx_version_def, fallback, input_count, output_count, version, end, time, height, script, file_e, file_f_with}
+use Rattle.format.specs.ExampleFiles.{file_f, tx_e}
 use Rattle.format.specs.ExampleFiles.{tx_f}
 use Rattle.format.specs.Computed.{Answers, stops, goes, answers, computes, refused_with, accepted_with}
 
@@ -46,15 +47,15 @@ proved =
     ∷ P 6 (magic ++ (tx_version_def ++ (input_count 0 ++ (input_count 0 ++ (output_count 0 ++ (version 2 ++ end)))))) (no 5 2 0)
     ∷ P 7 (magic ++ (tx_version_def ++ (input_count 0 ++ (output_count 0 ++ (version 3 ++ end))))) (no 13 4 1)
     ∷ P 7 (magic ++ (tx_version_def ++ (input_count 0 ++ (output_count 0 ++ end)))) (no 8 3 1)
-    ∷ P 8 (file_fwith [] [] []) (no 17 7 3)
-    ∷ P 9 (file_fwith [] (height 499_999_999) script) (like_f 9 (0xff ∷ 0x64 ∷ 0xcd ∷ 0x1d ∷ []))
-    ∷ P 9 (file_fwith [] (height 500_000_000) script) (no_tx 9)
-    ∷ P 10 (file_fwith [] (time 500_000_000) script) (like_f 9 (0x00 ∷ 0x65 ∷ 0xcd ∷ 0x1d ∷ []))
-    ∷ P 10 (file_fwith [] (time 499_999_999) script) (no_tx 9)
-    ∷ P 11 (file_fwith (fallback 1_700_000_000) (height 800_000) script)
+    ∷ P 8 (file_f_with [] [] []) (no 17 7 3)
+    ∷ P 9 (file_f_with [] (height 499_999_999) script) (like_f 9 (0xff ∷ 0x64 ∷ 0xcd ∷ 0x1d ∷ []))
+    ∷ P 9 (file_f_with [] (height 500_000_000) script) (no_tx 9)
+    ∷ P 10 (file_f_with [] (time 500_000_000) script) (like_f 9 (0x00 ∷ 0x65 ∷ 0xcd ∷ 0x1d ∷ []))
+    ∷ P 10 (file_f_with [] (time 499_999_999) script) (no_tx 9)
+    ∷ P 11 (file_f_with (fallback 1_700_000_000) (height 800_000) script)
     (goes (accepted_with (nat 1_700_000_000) none 1 1 10 3)
     (told_left (told 0 (nat 61 ∷ flag false ∷ flag true ∷ [])) (tx_f (0x00 ∷ 0x35 ∷ 0x0c ∷ 0x00 ∷ []) ++ replicate 3 0)))
-    ∷ P 12 (file_fwith [] [] (script ++ (1 ∷ 0x7f ∷ 0 ∷ []))) (like_f 9 (0 ∷ 0 ∷ 0 ∷ 0 ∷ []))
+    ∷ P 12 (file_f_with [] [] (script ++ (1 ∷ 0x7f ∷ 0 ∷ []))) (like_f 9 (0 ∷ 0 ∷ 0 ∷ 0 ∷ []))
     ∷ P 13 (magic ++ (tx_version_def ++ (input_count 0 ++ (output_count 0 ++ (version 2 ++ (0xfd ∷ 0 ∷ 0 ∷ [])))))) like_e
     ∷ []
 

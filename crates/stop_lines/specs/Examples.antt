@@ -4,7 +4,7 @@ use Rattle.format.specs.Content.{magic}
 use Rattle.format.specs.Entries.{pair_words, map_words}
 use Rattle.format.specs.Parse.{ParseOut, out, parsed}
 use Rattle.format.specs.ExampleFiles.{tx_version_def, input_count, output_count, version, end, txid, output_index, amount, script, label}
-use Rattle.format.specs.ExampleFiles.{globals, file_e, file_f, file_fwith}
+use Rattle.format.specs.ExampleFiles.{globals, file_e, file_f, file_f_with}
 use Rattle.format.specs.Computed.{computes}
 use Rattle.format.specs.declared.PsbtError.{PsbtError}
 use Rattle.format.specs.declared.PsbtError.TheVariants.{TooLong}
@@ -67,7 +67,7 @@ at_its_end = refl
 pub in_input : map (stop_in 16 4)
     (globals 1 1 [] []
     ∷ (globals 1 1 [] [] ++ (output_index ++ output_index))
-    ∷ file_fwith [] output_index script
+    ∷ file_f_with [] output_index script
     ∷ (globals 2 0 [] [] ++ (output_index ++ (end ++ (txid ++ txid))))
     ∷ [])
     ≡ say "stopped in input 0, after 0 pairs\n"
@@ -81,7 +81,7 @@ in_input = refl
 -- in an output: F cut off behind its input; an amount twice; the same in the second output of a file without inputs; a label behind two pairs
 pub in_output : map (stop_in 16 4)
     (take 71 file_f
-    ∷ file_fwith [] [] amount
+    ∷ file_f_with [] [] amount
     ∷ (globals 0 2 [] [] ++ (script ++ (end ++ (amount ++ (amount ++ end)))))
     ∷ (globals 0 1 [] [] ++ (amount ++ (script ++ take 6 label)))
     ∷ [])
@@ -94,7 +94,7 @@ unfolding stops
 in_output = refl
 
 -- behind the last map: a byte left over, with no input and output or with some; an output without a script
-pub behind_all : map (stop_in 16 4) ((file_e ++ end) ∷ (file_f ++ end) ∷ file_fwith [] [] [] ∷ [])
+pub behind_all : map (stop_in 16 4) ((file_e ++ end) ∷ (file_f ++ end) ∷ file_f_with [] [] [] ∷ [])
     ≡ say "stopped behind the last map\n" ∷ say "stopped behind the last map\n" ∷ say "stopped behind the last map\n" ∷ []
 unfolding stops
 behind_all = refl

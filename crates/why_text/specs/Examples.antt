@@ -1,6 +1,6 @@
 -- Texts that the definition gives, computed.
 use Rattle.std.specs.Prelude.{ℕ, ◌≡◌, refl, List, [], ◌∷◌, ◌++◌}
-use Rattle.format.specs.ExampleFiles.{file_f, file_fwith, fallback, script, output_index, time, height}
+use Rattle.format.specs.ExampleFiles.{file_f, file_f_with, fallback, script, output_index, time, height}
 use Rattle.format.specs.Numbers.{bytes_of}
 use Rattle.format.specs.Computed.{computes}
 use Rattle.format.specs.Tables.{Held, held_input}
@@ -81,7 +81,7 @@ text_clock =
     ∷ [])
 
 -- so it prints: refused, by the field of input 0
-pub why_clock : why (file_fwith [] (time 86_400) script) ≡ text_clock
+pub why_clock : why (file_f_with [] (time 86_400) script) ≡ text_clock
 unfolding prints
 why_clock = refl
 
@@ -98,7 +98,7 @@ text_height =
     ∷ [])
 
 -- so it prints: the height decides, and since the input has no sequence, the network ignores it
-pub why_height : why (file_fwith (fallback 1_700_000_000) (height 800_000) script) ≡ text_height
+pub why_height : why (file_f_with (fallback 1_700_000_000) (height 800_000) script) ≡ text_height
 unfolding prints
 why_height = refl
 
@@ -112,7 +112,7 @@ unfolding prints stops refused_text
 prints_refused = why
 
 -- so it prints: refused, in input 0
-pub why_twice : why (file_fwith [] output_index script) ≡ text_twice
+pub why_twice : why (file_f_with [] output_index script) ≡ text_twice
 unfolding prints_refused
 why_twice = refl
 
@@ -133,6 +133,6 @@ text_heeded =
     ∷ [])
 
 -- so it prints: the network heeds the time
-pub why_heeded : why (file_fwith [] (sequenced 0xffff_fffe ++ time 1_893_456_000) script) ≡ text_heeded
+pub why_heeded : why (file_f_with [] (sequenced 0xffff_fffe ++ time 1_893_456_000) script) ≡ text_heeded
 unfolding prints
 why_heeded = refl
