@@ -1,7 +1,7 @@
 // The text that the dump prints of a file, put into a lent buffer as far as it has room.
 #![tactic(auto)]
 
-ghost use Rattle.std.specs.Prelude.{◌≡◌, map, ◌+◌, ◌≤◌, length, take, OnOk, IfSome};
+ghost use Rattle.std.specs.Prelude.{◌≡◌, map, ◌+◌, ◌≤◌, length, take, ℕ, OnOk, OnErr, IfSome};
 ghost use Rattle.std.specs.Io.KnownBytes.{Appends};
 ghost use Rattle.rooms.specs.Limits.{longest};
 ghost use Rattle.format.specs.Entries.{shown};
@@ -17,7 +17,7 @@ use entries::pair_entry;
 use fitness::{Fit, fit_map, is_reported};
 use format::{Looked, MapEntry, Nth, PairEntry, Parsed, Psbt, PsbtError, State, UnsignedTx};
 use lookup::{key_part, part_of, value_part};
-use rooms::{LONGEST, file_room, map_room, pair_room, read_full, tx_room};
+use rooms::{LONGEST, file_room, map_room, pair_room, read_full, tx_room, write_full};
 use std::io::{self, Read, Write};
 use text::{put, put_decimal, put_hex_byte, put_hex_or_dash, put_signed};
 
@@ -244,15 +244,17 @@ fn put_whole(out: &mut [u8], file: &[u8]) -> usize
     put_dump(out, 0, file)
 }
 
-// Reads a file, until it ends or is too long, and writes its dump. The error is that of the read or the write that failed: of a
-// failed read nothing is written, of a failed write perhaps the front of the dump.
+// Reads a file, until it ends or is too long, and writes its dump. The error is that of the read or the write that failed: then
+// a front of the dump may have been written, behind a failed read nothing.
 pub fn dump_input<R: Read, W: Write>(from: &mut R, to: &mut W) -> io::Result<()>
-    ensures { OnOk result (IfSome (R.remaining from.old)
+    ensures ok { OnOk result (IfSome (R.remaining from.old)
         (λ f. Appends (W.contents to.old) (W.contents to.new) (dump (take (longest + 1) f)))) }
+    ensures err { OnErr result (IfSome (R.remaining from.old)
+        (λ f. (n : ℕ) × Appends (W.contents to.old) (W.contents to.new) (take n (dump (take (longest + 1) f))))) }
 {
     let mut file = file_room();
     let mut out = text_room();
     let got = read_full(from, &mut file)?;
     let end = put_whole(&mut out, &file[..got]);
-    to.write_all(&out[..end])
+    write_full(to, &out[..end])
 }

@@ -230,9 +230,6 @@ module _ (F P₁ M : List ℕ) (w₁ : Known) (at₁ p₁ m : ℕ) (P : List ℕ
         vlen< = omega (arith, bounds.value, l.short, limit_fits);
       }
 
-      pub one_more : Fits w64 (p + 1)
-      one_more = record { fits = omega (arith, i.p≤, i.at≤, l.short, limit_fits) }
-
     pub one_less : length F - (e.value + e.vlen) < length F - at
     one_less = omega (arith, bounds.value, bounds.moves)
 

@@ -1,37 +1,26 @@
--- What reads have put at the front of a room: all that the input had, as far as there is room.
-use Rattle.std.proofs.Common.{◌≡◌, ℕ, ◌+◌, ◌-◌, ◌<◌, ◌≤◌, List, ◌++◌, arith, length, take, slice_range, sym, ap, ◌∙◌, subst, inl, inr}
-use Rattle.std.proofs.Common.{le_refl, drop_at, length-take-le}
+-- What reads have put at the front of a room: all that the input had, as far as there is room. What writes have taken of a text: its front.
+use Rattle.std.proofs.Common.{◌≡◌, ℕ, ◌+◌, ◌-◌, ◌<◌, ◌≤◌, List, ◌++◌, arith, length, take, drop, sym, ap, ◌∙◌, subst, length-take-le, length-drop, inl, inr}
 use Rattle.std.proofs.lemmas.Bool.{cases_lt}
-use Rattle.std.proofs.lemmas.List.{append-nil, take_all}
-use Rattle.std.proofs.lemmas.Slice.{take-put_mid_below}
-use Rattle.std.specs.Prelude.{Option, None, Some, IfSome, Result, Ok, Err, OnOk}
+use Rattle.std.proofs.lemmas.List.{append-nil, take_all, take-append-le}
+use Rattle.std.proofs.Math.Seq.{take-append-add, take-add}
+use Rattle.std.specs.Prelude.{Option, None, Some, IfSome, Result, Ok, Err, OnOk, OnErr}
 use Rattle.std.specs.Io.KnownBytes.{Consumes, IsAtEnd, Appends}
-use Rattle.std.proofs.KnownBytes.{Consumes-trans}
+use Rattle.std.proofs.KnownBytes.{Consumes-trans, Appends-trans}
 use borrow.Rule.Slice.PartMut.{put_mid, post_of}
-use lib.Seq.{take-add, take-append-le}
 
-take_split : (a b : ℕ) (old new : List ℕ) → a ≤ b → take a new ≡ take a old → take a old ++ slice_range new a b ≡ take b new
-take_split a b old new h front =
-    let same : a + (b - a) ≡ b = omega arith in
-    ap (λ l. l ++ slice_range new a b) (sym front) ∙ sym (take-add a (b - a) new) ∙ ap (λ n. take n new) same
-
-slice_range_put_mid : (a k n : ℕ) (xs ys : List ℕ) → a ≤ length xs → n ≤ length ys → slice_range (put_mid a k xs ys) a (a + n) ≡ take n ys
-slice_range_put_mid a k n xs ys within fits =
-    let same : (a + n) - a ≡ n = omega arith in
-    let after = post_of a k xs in
-    ap (take ((a + n) - a)) (drop_at (take a xs) (ys ++ after) a (length-take-le a xs within))
-    ∙ ap (λ m. take m (ys ++ after)) same
-    ∙ take-append-le n ys after fits
+-- what stands at the front of a room, and n bytes more that were put behind it
+front_more : (a k n : ℕ) (xs ys : List ℕ) → a ≤ length xs → n ≤ length ys → take (a + n) (put_mid a k xs ys) ≡ take a xs ++ take n ys
+front_more a k n xs ys within fits =
+    ap (λ m. take (m + n) (put_mid a k xs ys)) (sym (length-take-le a xs within))
+    ∙ take-append-add (take a xs) (ys ++ post_of a k xs) n
+    ∙ ap (λ l. take a xs ++ l) (take-append-le n ys (post_of a k xs) fits)
 
 -- a read more: u, v and w are what the reader has left before the first, before this one and after it
 pub read_more : (u v w : Option (List ℕ)) (a n : ℕ) (room part : List ℕ) → a ≤ length room → n ≤ length part
     → Consumes u v (take a room) → Consumes v w (take n part)
     → Consumes u w (take (a + n) (put_mid a (length room - a) room part))
 read_more u v w a n room part within fits before here =
-    let k = length room - a in
-    let front = take-put_mid_below _ _ _ _ _ (le_refl a) within in
-    let joined = take_split a (a + n) room (put_mid a k room part) (omega arith) front in
-    subst (Consumes u w) (ap (λ l. take a room ++ l) (sym (slice_range_put_mid a k n room part within fits)) ∙ joined) (Consumes-trans _ _ _ _ _ before here)
+    subst (Consumes u w) (sym (front_more a (length room - a) n room part within fits)) (Consumes-trans _ _ _ _ _ before here)
 
 -- n bytes that the input had first, and no more are left where there is room for more: these are the input, as far as there is room
 pub input_is : (u v : Option (List ℕ)) (n : ℕ) (room : List ℕ) → n ≤ length room → Consumes u v (take n room) → (n < length room → IsAtEnd v)
@@ -57,3 +46,19 @@ text_written (Err e) u w w' text m room read out long is whole wrote = tt
 text_written (Ok a) None w w' text m room read out long is whole wrote = tt
 text_written (Ok a) (Some f) w w' text m room read out long is whole wrote =
     subst (Appends w w') (whole ∙ ap text (is ∙ ap (λ (n : ℕ). take n f) (sym long))) wrote
+
+-- a write more: u, v and w are what the writer holds before the first, before this one and after it
+pub write_more : (u v w : Option (List ℕ)) (a n : ℕ) (text : List ℕ) → Appends u v (take a text) → Appends v w (take n (take (length text - a) (drop a text)))
+    → Appends u w (take (a + n) text)
+write_more u v w a n text before here =
+    let rest : take (length text - a) (drop a text) ≡ drop a text = take_all _ _ (omega (arith, length-drop a text)) in
+    subst (Appends u w) (ap (λ l. take a text ++ take n l) rest ∙ sym (take-add a n text)) (Appends-trans _ _ _ _ _ before here)
+
+-- a front of such a text that was written is a front of the text of the input
+pub front_written : {A B : Type 0} (r : Result A B) (u w w' : Option (List ℕ)) (text : List ℕ → List ℕ) (m : ℕ) (room read out : List ℕ) → m ≡ length room
+    → IfSome u (λ f. read ≡ take (length room) f) → out ≡ text read → OnErr r ((n : ℕ) × Appends w w' (take n out))
+    → OnErr r (IfSome u (λ f. (n : ℕ) × Appends w w' (take n (text (take m f)))))
+front_written (Ok a) u w w' text m room read out long is whole wrote = tt
+front_written (Err e) None w w' text m room read out long is whole wrote = tt
+front_written (Err e) (Some f) w w' text m room read out long is whole wrote =
+    (wrote.0, subst (λ (t : List ℕ). Appends w w' (take wrote.0 t)) (whole ∙ ap text (is ∙ ap (λ (n : ℕ). take n f) (sym long))) wrote.1)

@@ -1,13 +1,13 @@
-// What the programs that print a file's text have room for, the memory that they lend, and reading into it.
+// What the programs that print a file's text have room for, the memory that they lend, and reading and writing.
 #![tactic(auto)]
 
-ghost use Rattle.std.specs.Prelude.{◌≡◌, ◌≤◌, ◌<◌, ◌+◌, ◌*◌, length, take, IfOk};
-ghost use Rattle.std.specs.Io.KnownBytes.{Consumes, IsAtEnd};
+ghost use Rattle.std.specs.Prelude.{◌≡◌, ◌≤◌, ◌<◌, ◌+◌, ◌*◌, length, take, ℕ, IfOk, OnOk, OnErr};
+ghost use Rattle.std.specs.Io.KnownBytes.{Consumes, IsAtEnd, Appends};
 ghost use Rattle.format.specs.Entries.{pair_words, map_words};
 ghost use Rattle.rooms.specs.Limits.{longest, most_pairs, most_maps};
 ghost use Rattle.rooms.specs.Rooms.{pair_room, map_room, tx_room};
 
-use std::io::{self, Read};
+use std::io::{self, ErrorKind, Read, Write};
 
 // The longest file that is read, in bytes.
 pub const LONGEST: usize = 65_536;
@@ -56,11 +56,12 @@ pub fn file_room() -> [u8; LONGEST + 1]
 }
 
 // Reads until `room` is full or the input ends, and answers how many bytes stand at its front. The error is that of the
-// read that failed; what was read before it is lost.
+// read that failed: what was read before it stands there too, but isn't counted.
 pub fn read_full<R: Read>(from: &mut R, room: &mut [u8]) -> io::Result<usize>
     ensures bound { IfOk result (λ n. n ≤ length room.new) }
     ensures bytes { IfOk result (λ n. Consumes (R.remaining from.old) (R.remaining from.new) (take n room.new)) }
     ensures end { IfOk result (λ n. n < length room.new → IsAtEnd (R.remaining from.new)) }
+    ensures err { OnErr result ((n : ℕ) × Consumes (R.remaining from.old) (R.remaining from.new) (take n room.new)) }
 {
     let mut got = 0;
     while got < room.len() {
@@ -71,4 +72,20 @@ pub fn read_full<R: Read>(from: &mut R, room: &mut [u8]) -> io::Result<usize>
         got += n;
     }
     Ok(got)
+}
+
+// Writes a text. The error is that of the write that failed or took nothing, and the text's front may have been written.
+pub fn write_full<W: Write>(to: &mut W, text: &[u8]) -> io::Result<()>
+    ensures ok { OnOk result (Appends (W.contents to.old) (W.contents to.new) text.now) }
+    ensures err { OnErr result ((n : ℕ) × Appends (W.contents to.old) (W.contents to.new) (take n text.now)) }
+{
+    let mut done = 0;
+    while done < text.len() {
+        let took = to.write(&text[done..])?;
+        if took == 0 {
+            return Err(io::Error::from(ErrorKind::WriteZero));
+        }
+        done += took;
+    }
+    Ok(())
 }

@@ -2,7 +2,7 @@
 // heeds the lock; of a refused file what refused it, and where.
 #![tactic(auto)]
 
-ghost use Rattle.std.specs.Prelude.{◌≡◌, ◌+◌, ◌≤◌, length, take, OnOk, IfSome};
+ghost use Rattle.std.specs.Prelude.{◌≡◌, ◌+◌, ◌≤◌, length, take, ℕ, OnOk, OnErr, IfSome};
 ghost use Rattle.std.specs.Io.KnownBytes.{Appends};
 ghost use Rattle.rooms.specs.Limits.{longest};
 ghost use Rattle.text.specs.Spots.{spot, lay};
@@ -12,7 +12,7 @@ use format::{Parsed, Psbt, PsbtError, State};
 use heed_lines::{heed_of, put_heed};
 use lock_lines::{put_head, put_input, put_verdict};
 use reasons::put_refused;
-use rooms::{LONGEST, file_room, map_room, pair_room, read_full, tx_room};
+use rooms::{LONGEST, file_room, map_room, pair_room, read_full, tx_room, write_full};
 use std::io::{self, Read, Write};
 use stop_lines::put_stop;
 use typed::input::{required_height_locktime, required_time_locktime};
@@ -141,15 +141,17 @@ fn put_whole(out: &mut [u8], file: &[u8]) -> usize
     put_why(out, 0, file)
 }
 
-// Reads a file, until it ends or is too long, and writes its text. The error is that of the read or the write that failed: of a
-// failed read nothing is written, of a failed write perhaps the front of the text.
+// Reads a file, until it ends or is too long, and writes its text. The error is that of the read or the write that failed: then
+// a front of the text may have been written, behind a failed read nothing.
 pub fn why_input<R: Read, W: Write>(from: &mut R, to: &mut W) -> io::Result<()>
-    ensures { OnOk result (IfSome (R.remaining from.old)
+    ensures ok { OnOk result (IfSome (R.remaining from.old)
         (λ f. Appends (W.contents to.old) (W.contents to.new) (why (take (longest + 1) f)))) }
+    ensures err { OnErr result (IfSome (R.remaining from.old)
+        (λ f. (n : ℕ) × Appends (W.contents to.old) (W.contents to.new) (take n (why (take (longest + 1) f))))) }
 {
     let mut file = file_room();
     let mut out = text_room();
     let got = read_full(from, &mut file)?;
     let end = put_whole(&mut out, &file[..got]);
-    to.write_all(&out[..end])
+    write_full(to, &out[..end])
 }

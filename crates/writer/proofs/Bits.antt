@@ -4,11 +4,10 @@ use mathlib.Core.Bool.{true, false}
 use Prim.Native.Nat.{suc, ◌^◌, ◌<◌}
 use native.Mathlib.Omega.{arith}
 use borrow.Author.Tests.{ltb-true, le-ltb}
-use lib.Dec.{T}
 use lib.IntN.{ℤ, pos, negsuc, nat_abs, ◌+ℤ◌}
-use lib.Signed.{non_neg, lt_z}
+use lib.Signed.{lt_z}
 use mir.Syntax.{w32, w64}
-use mir.Val.{Fits, SFits, to_z, of_z}
+use mir.Val.{SFits, to_z, of_z}
 use mir.Facts.{to_z-of_z}
 use Rattle.format.specs.Numbers.{unsigned}
 use Rattle.format.proofs.Tests.{never_true}
@@ -21,7 +20,7 @@ module _ (z : ℤ) (f : SFits w32 z) where
   wide : SFits w64 z
   wide = record { sfits = omega (arith, f.sfits) }
 
-  pub widens : SFits w64 (to_z w32 (of_z w32 z))
+  widens : SFits w64 (to_z w32 (of_z w32 z))
   widens = subst (SFits w64) (sym held) wide
 
   widened : to_z w64 (of_z w64 (to_z w32 (of_z w32 z))) ≡ z
@@ -40,33 +39,22 @@ module _ (z : ℤ) (f : SFits w32 z) (h : lt_z (to_z w32 (of_z w32 z)) (pos 0) �
   sum : to_z w64 (of_z w64 (to_z w32 (of_z w32 z))) +ℤ pos 0x1_0000_0000 ≡ pos (of_z w32 z)
   sum = ap (λ (y : ℤ). y +ℤ pos 0x1_0000_0000) (widened z f) ∙ sum_is z f (subst (λ (y : ℤ). lt_z y (pos 0) ≡ true) (held z f) h)
 
-  pub adds : SFits w64 (to_z w64 (of_z w64 (to_z w32 (of_z w32 z))) +ℤ pos 0x1_0000_0000)
+  adds : SFits w64 (to_z w64 (of_z w64 (to_z w32 (of_z w32 z))) +ℤ pos 0x1_0000_0000)
   adds = subst (SFits w64) (sym sum) (record { sfits = omega (arith, bits_small z f) })
 
   added : to_z w64 (of_z w64 (to_z w64 (of_z w64 (to_z w32 (of_z w32 z))) +ℤ pos 0x1_0000_0000)) ≡ pos (of_z w32 z)
   added = to_z-of_z adds ∙ sum
-
-  pub casts : T (non_neg (to_z w64 (of_z w64 (to_z w64 (of_z w64 (to_z w32 (of_z w32 z))) +ℤ pos 0x1_0000_0000))))
-      × Fits w64 (nat_abs (to_z w64 (of_z w64 (to_z w64 (of_z w64 (to_z w32 (of_z w32 z))) +ℤ pos 0x1_0000_0000))))
-  casts = subst (λ (y : ℤ). T (non_neg y) × Fits w64 (nat_abs y)) (sym added) (tt, record { fits = omega (arith, bits_small z f) })
 
   pub negative : nat_abs (to_z w64 (of_z w64 (to_z w64 (of_z w64 (to_z w32 (of_z w32 z))) +ℤ pos 0x1_0000_0000))) ≡ unsigned z
   unfolding unsigned
   negative = ap nat_abs added
 
 -- and of another
-other : (z : ℤ) → SFits w32 z → lt_z z (pos 0) ≡ false → T (non_neg z) × Fits w64 (nat_abs z) × (nat_abs z ≡ unsigned z)
+other : (z : ℤ) → lt_z z (pos 0) ≡ false → nat_abs z ≡ unsigned z
 unfolding unsigned
-other (pos n) f h = (tt, record { fits = omega (arith, f.sfits) }, refl)
-other (negsuc n) f h = never_true (sym h)
+other (pos n) h = refl
+other (negsuc n) h = never_true (sym h)
 
-module _ (z : ℤ) (f : SFits w32 z) (h : lt_z (to_z w32 (of_z w32 z)) (pos 0) ≡ false) where
-  is_other : T (non_neg (to_z w32 (of_z w32 z))) × Fits w64 (nat_abs (to_z w32 (of_z w32 z))) × (nat_abs (to_z w32 (of_z w32 z)) ≡ unsigned z)
-  is_other = subst (λ (y : ℤ). T (non_neg y) × Fits w64 (nat_abs y) × (nat_abs y ≡ unsigned z))
-      (sym (held z f)) (other z f (subst (λ (y : ℤ). lt_z y (pos 0) ≡ false) (held z f) h))
-
-  pub keeps : T (non_neg (to_z w32 (of_z w32 z))) × Fits w64 (nat_abs (to_z w32 (of_z w32 z)))
-  keeps = (is_other.0, is_other.1)
-
-  pub positive : nat_abs (to_z w32 (of_z w32 z)) ≡ unsigned z
-  positive = is_other.2
+pub positive : (z : ℤ) → SFits w32 z → lt_z (to_z w32 (of_z w32 z)) (pos 0) ≡ false → nat_abs (to_z w32 (of_z w32 z)) ≡ unsigned z
+positive z f h =
+    subst (λ (y : ℤ). nat_abs y ≡ unsigned z) (sym (held z f)) (other z (subst (λ (y : ℤ). lt_z y (pos 0) ≡ false) (held z f) h))

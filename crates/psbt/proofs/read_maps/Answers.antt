@@ -9,7 +9,7 @@ maps-init c = search (rules, loops)
 
 pub write_pair-requires : goal.write_pair-requires
 write_pair-requires c =
-    search (one_writes, c.if-not-has_pair_room.false, c.has_pair_room.ensures, c.in-One.is, c.step_at-x.ensures, c.loop-e.invariant, c.requires)
+    search (one_writes, c.has_pair_room.ensures, c.in-One.is, c.step_at-x.ensures, c.loop-e.invariant, c.requires)
 
 pub overflow_add-le : goal.overflow_add-le
 overflow_add-le c = search (one_key, c.in-One.is, c.step_at-x.ensures, c.loop-e.invariant, c.requires)
@@ -32,7 +32,6 @@ loop-e-preserved c =
       one_again,
       c.note_pair-known.ensures,
       c.write_pair.ensures,
-      c.if-not-has_pair_room.false,
       c.has_pair_room.ensures,
       c.in-One.is,
       c.step_at-x.ensures,
@@ -43,10 +42,8 @@ pub write_map-requires : goal.write_map-requires
 write_map-requires c =
     search (
       map_writes,
-      c.in-Over.is,
       c.step_at-x.ensures,
       c.loop-e.invariant,
-      c.if-not-has_map_room.false,
       c.has_map_room.ensures,
       c.maps.invariant,
       c.requires,
@@ -65,7 +62,6 @@ maps-preserved c =
       c.in-Over.is,
       c.step_at-x.ensures,
       c.loop-e.invariant,
-      c.if-not-has_map_room.false,
       c.has_map_room.ensures,
       c.maps.invariant,
     )
@@ -80,12 +76,10 @@ pub returns-then-not-has_pair_room : goal.returns-then-not-has_pair_room
 returns-then-not-has_pair_room c =
     search (
       exit_22,
-      c.if-not-has_pair_room.true,
       c.has_pair_room.ensures,
       c.in-One.is,
       c.step_at-x.ensures,
       c.loop-e.invariant,
-      c.if-not-has_map_room.false,
       c.has_map_room.ensures,
       c.maps.invariant,
     )
@@ -100,7 +94,6 @@ returns-in-Stop-t c =
       c.in-Over.is,
       c.step_at-x.ensures,
       c.loop-e.invariant,
-      c.if-not-has_map_room.false,
       c.has_map_room.ensures,
       c.maps.invariant,
     )
@@ -115,7 +108,6 @@ returns-in-Done c =
       c.in-Over.is,
       c.step_at-x.ensures,
       c.loop-e.invariant,
-      c.if-not-has_map_room.false,
       c.has_map_room.ensures,
       c.maps.invariant,
     )

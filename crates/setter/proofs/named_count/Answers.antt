@@ -7,7 +7,7 @@ pub loop-k-preserved-then-a-i : goal.loop-k-preserved-then-a-i
 loop-k-preserved-then-a-i c = search (rules, count_one, counts)
 
 pub loop-k-preserved : goal.loop-k-preserved
-loop-k-preserved c = search (rules, count_one, counts)
+loop-k-preserved c = search (rules, counts)
 
 pub returns : goal.returns
-returns c = search (rules, count_one, counts)
+returns c = search (rules, counts)
