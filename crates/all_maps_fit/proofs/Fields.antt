@@ -17,57 +17,41 @@ use Rattle.format.specs.declared.PsbtError.{PsbtError}
 use Rattle.format.specs.declared.PairEntry.{PairEntry}
 use Rattle.format.specs.declared.MapEntry.{MapEntry}
 use Rattle.format.specs.declared.Psbt.{Psbt}
-use Rattle.format.specs.declared.Looked.{Looked}
-use Rattle.format.specs.declared.Looked.TheVariants as K
+use Rattle.format.specs.declared.Part.{Part}
+use Rattle.format.specs.Answers.{part_at, Looked}
+use Rattle.std.specs.Prelude.{Ok, Err, Some, None}
 use Rattle.format.proofs.Tests.{pick_ap}
 use Rattle.entries.specs.Words.{pair_count, map_at}
 use Rattle.fitness.specs.Fits.{entries_of}
 use Rattle.lookup.specs.Finds.{Lies}
 use Rattle.lookup.proofs.Finds.{place_in}
 use Rattle.all_maps_fit.specs.Alls.{Usable, pairs_of, out_at}
-use Rattle.all_maps_fit.specs.Places.{found_at, field_at, sized_at, found_in_def, sized_in}
-use Rattle.all_maps_fit.specs.declared.FoundAt.{FoundAt}
-use Rattle.all_maps_fit.specs.declared.FoundAt.TheVariants as F
+use Rattle.all_maps_fit.specs.Places.{found_at, field_at, sized_at, found_in_def, sized_in, FoundAt}
 use Rattle.all_maps_fit.specs.declared.SizedAt.{SizedAt}
 use Rattle.all_maps_fit.specs.declared.SizedAt.TheVariants as S
 
 pub usable_within : (f P : List ℕ) (m : MapEntry) → Usable f P m → m.first + m.count ≤ pair_count P
 usable_within f P m u = u.within
 
--- a field's place, by where its key was found
-module _ (f P : List ℕ) (t : ℕ) (m : MapEntry) (o : Looked) (at : o ≡ place f (key_of t []) (entries_of P m)) where
-  field_by : (x : FoundAt) → x ≡ found_at o → x ≡ field_at f P t m
-  unfolding field_at
-  field_by x e = e ∙ ap found_at at
-
-  pub field_refused : (e : PsbtError) → o ≡ K.Refused e → F.Missing ≡ field_at f P t m
-  unfolding found_at
-  field_refused e q = field_by F.Missing (sym (ap found_at q))
-
-  pub field_absent : o ≡ K.Absent → F.Missing ≡ field_at f P t m
-  unfolding found_at
-  field_absent q = field_by F.Missing (sym (ap found_at q))
-
-  pub field_found : (s n : ℕ) → o ≡ K.At s n → F.At s n ≡ field_at f P t m
-  unfolding found_at
-  field_found s n q = field_by (F.At s n) (sym (ap found_at q))
-
-pub ruleset founds = (field_refused, field_absent, field_found)
+-- a field's place is where its key was found
+pub field_place : (f P : List ℕ) (t : ℕ) (m : MapEntry) (x : FoundAt) → Ok x ≡ place f (key_of t []) (entries_of P m) → x ≡ field_at f P t m
+unfolding field_at found_at
+field_place f P t m x e = ap found_at e
 
 -- a field of w bytes
 module _ (w : ℕ) (x : FoundAt) where
-  pub sized_missing : x ≡ F.Missing → S.Missing ≡ sized_at w x
+  pub sized_missing : x ≡ None → S.Missing ≡ sized_at w x
   unfolding sized_at
   sized_missing e = rw e
 
-  module _ (s n : ℕ) (e : x ≡ F.At s n) where
-    pub sized_right : n ≡ w → S.At s ≡ sized_at w x
+  module _ (p : Part) (e : x ≡ Some p) where
+    pub sized_right : p.len ≡ w → S.At p.start ≡ sized_at w x
     unfolding sized_at
-    sized_right h = rw (e, eq-eqb n w h)
+    sized_right h = rw (e, eq-eqb p.len w h)
 
-    pub sized_wrong : (n ≡ w → ⊥) → S.Misfit ≡ sized_at w x
+    pub sized_wrong : (p.len ≡ w → ⊥) → S.Misfit ≡ sized_at w x
     unfolding sized_at
-    sized_wrong h = rw (e, ne_eqb n w h)
+    sized_wrong h = rw (e, ne_eqb p.len w h)
 
 pub ruleset sizes = (sized_missing, sized_right, sized_wrong)
 
@@ -76,18 +60,20 @@ place_shows : (f key : List ℕ) (es : List PairEntry) → found_in_def f (found
 unfolding place find shown value_in_def found_at found_in_def
 place_shows f key [] = refl
 place_shows f key (e ∷ es) =
-    pick_ap (λ (o : Looked). found_in_def f (found_at o)) (same key (key_in_def f e)) (K.At e.value e.vlen) (place f key es) ∙ rw (place_shows f key es)
+    pick_ap (λ (o : Looked). found_in_def f (found_at o)) (same key (key_in_def f e)) (Ok (Some (part_at e.value e.vlen))) (place f key es)
+    ∙ rw (place_shows f key es)
 
 sized_shows : (w : ℕ) (f : List ℕ) (o : Looked) → Lies f o → sized_in w f (sized_at w (found_at o)) ≡ sized_to w (found_in_def f (found_at o))
 unfolding sized_in sized_at sized_to found_at found_in_def
-sized_shows w f (K.Refused e) h = refl
-sized_shows w f K.Absent h = refl
-sized_shows w f (K.At s n) h =
-    let l : length (take n (drop s f)) ≡ n = rw (length-take, length-drop) (omega (arith, h.inside s n refl)) in
-    by l (eqb n w) refl
+sized_shows w f (Err e) h = refl
+sized_shows w f (Ok None) h = refl
+sized_shows w f (Ok (Some p)) h =
+    let l : length (take p.len (drop p.start f)) ≡ p.len = rw (length-take, length-drop) (omega (arith, h.inside p refl)) in
+    by l (eqb p.len w) refl
   where
-    by : length (take n (drop s f)) ≡ n → (b : Bool) → eqb n w ≡ b → sized_in w f (sized_at w (F.At s n)) ≡ sized_to w (found (take n (drop s f)))
-    by l true q = rw (l, q) (ap (λ (k : ℕ). is (take k (drop s f))) (sym (eqb-true n w q)))
+    by : length (take p.len (drop p.start f)) ≡ p.len → (b : Bool) → eqb p.len w ≡ b
+        → sized_in w f (sized_at w (Some p)) ≡ sized_to w (found (take p.len (drop p.start f)))
+    by l true q = rw (l, q) (ap (λ (k : ℕ). is (take k (drop p.start f))) (sym (eqb-true p.len w q)))
     by l false q = rw (l, q)
 
 pub sized_is : (f P : List ℕ) (m : MapEntry) (t w : ℕ) (x : FoundAt) (r : SizedAt) → Usable f P m → x ≡ field_at f P t m → r ≡ sized_at w x

@@ -2,12 +2,9 @@
 use mathlib.Core.Path.{◌≡◌, refl, sym, ◌∙◌, ap}
 use mathlib.Core.Bool.{Bool, true, false}
 use mathlib.Core.List.{List, [], ◌∷◌, map}
-use Prim.Native.Nat.{ℕ, ◌+◌, ◌-◌, ◌^◌, ◌≤◌, ◌<◌}
-use native.Mathlib.Omega.{arith}
+use Prim.Native.Nat.{ℕ}
 use lib.Dec.{eqb}
 use lib.ListN.{length}
-use mir.Syntax.{w64}
-use mir.Val.{Fits}
 use Rattle.format.specs.Tests.{pick}
 use Rattle.format.specs.Keys.{key_of, same}
 use Rattle.format.specs.Content.{field}
@@ -16,14 +13,13 @@ use Rattle.format.specs.Lookups.{place}
 use Rattle.format.specs.Locks.{sized_to, in_of}
 use Rattle.format.specs.declared.PairEntry.{PairEntry}
 use Rattle.format.specs.declared.MapEntry.{MapEntry}
-use Rattle.format.specs.declared.Looked.TheVariants as K
+use Rattle.format.specs.declared.Part.{Part}
+use Rattle.format.specs.Answers.{part_at}
+use Rattle.std.specs.Prelude.{Ok, Some}
 use Rattle.keys.proofs.Bare.{bare_not}
-use Rattle.entries.specs.Words.{pair_count, pair_at}
-use Rattle.fitness.specs.Fits.{run, entries_of}
-use Rattle.fitness.proofs.Walks.{run_none, run_one, next_fits}
+use Rattle.fitness.specs.Fits.{entries_of}
 use Rattle.all_maps_fit.specs.Alls.{Usable}
 use Rattle.all_maps_fit.specs.Places.{found_at, field_at, sized_at, sized_in, noted_at, field_noted, field_from, no_input, note_input, input_from, input_in}
-use Rattle.all_maps_fit.specs.declared.FoundAt.TheVariants as F
 use Rattle.all_maps_fit.specs.declared.SizedAt.{SizedAt}
 use Rattle.all_maps_fit.specs.declared.SizedAt.TheVariants as S
 use Rattle.all_maps_fit.specs.declared.InputAt.{InputAt}
@@ -31,19 +27,19 @@ use Rattle.all_maps_fit.proofs.Fields.{sized_is}
 
 -- a field after a pair, each way
 module _ (old : SizedAt) (own : Bool) (w : ℕ) (e : PairEntry) where
-  pub noted_own : old ≡ S.Missing → own ≡ true → (r : SizedAt) → r ≡ sized_at w (F.At e.value e.vlen) → r ≡ noted_at old own w e
+  pub noted_own : old ≡ S.Missing → own ≡ true → (r : SizedAt) → r ≡ sized_at w (Some (part_at e.value e.vlen)) → r ≡ noted_at old own w e
   unfolding noted_at
   noted_own h k r q = q ∙ sym (rw (h, k))
 
-  pub noted_other : old ≡ S.Missing → own ≡ false → S.Missing ≡ noted_at old own w e
+  pub noted_other : old ≡ S.Missing → own ≡ false → old ≡ noted_at old own w e
   unfolding noted_at
   noted_other h k = rw (h, k)
 
-  pub noted_misfit : old ≡ S.Misfit → S.Misfit ≡ noted_at old own w e
+  pub noted_misfit : old ≡ S.Misfit → old ≡ noted_at old own w e
   unfolding noted_at
   noted_misfit h = rw h
 
-  pub noted_there_lem : (s : ℕ) → old ≡ S.At s → S.At s ≡ noted_at old own w e
+  pub noted_there_lem : (s : ℕ) → old ≡ S.At s → old ≡ noted_at old own w e
   unfolding noted_at
   noted_there_lem s h = rw h
 
@@ -98,12 +94,12 @@ module _ (f : List ℕ) (t w : ℕ) where
   field_stays x [] h = refl
   field_stays x (e ∷ es) h = ap (λ (y : SizedAt). field_from f t w y es) (h e) ∙ field_stays x es h
 
-  sized_stays : (s n : ℕ) (es : List PairEntry) → field_from f t w (sized_at w (F.At s n)) es ≡ sized_at w (F.At s n)
+  sized_stays : (p : Part) (es : List PairEntry) → field_from f t w (sized_at w (Some p)) es ≡ sized_at w (Some p)
   unfolding sized_at field_noted noted_at
-  sized_stays s n es = by (eqb n w)
+  sized_stays p es = by (eqb p.len w)
     where
-      by : (b : Bool) → field_from f t w (pick b (S.At s) S.Misfit) es ≡ pick b (S.At s) S.Misfit
-      by true = field_stays (S.At s) es (λ e. refl)
+      by : (b : Bool) → field_from f t w (pick b (S.At p.start) S.Misfit) es ≡ pick b (S.At p.start) S.Misfit
+      by true = field_stays (S.At p.start) es (λ e. refl)
       by false = field_stays S.Misfit es (λ e. refl)
 
   field_walked : (es : List PairEntry) → field_from f t w S.Missing es ≡ sized_at w (found_at (place f (key_of t []) es))
@@ -112,9 +108,9 @@ module _ (f : List ℕ) (t w : ℕ) where
   field_walked (e ∷ es) = by (field_walked es) (same (key_of t []) (key_in_def f e))
     where
       by : field_from f t w S.Missing es ≡ sized_at w (found_at (place f (key_of t []) es)) → (b : Bool)
-          → field_from f t w (pick b (sized_at w (F.At e.value e.vlen)) S.Missing) es
-          ≡ sized_at w (found_at (pick b (K.At e.value e.vlen) (place f (key_of t []) es)))
-      by h true = sized_stays e.value e.vlen es
+          → field_from f t w (pick b (sized_at w (Some (part_at e.value e.vlen))) S.Missing) es
+          ≡ sized_at w (found_at (pick b (Ok (Some (part_at e.value e.vlen))) (place f (key_of t []) es)))
+      by h true = sized_stays (part_at e.value e.vlen) es
       by h false = h
 
   field_shown : (P : List ℕ) (m : MapEntry) → Usable f P m
@@ -144,32 +140,15 @@ inputs_shown f P m u = ap (input_in f) (fields_from f no_input (entries_of P m))
   height = field_shown f 0x12 4 P m u j;
 })
 
--- the fields after the n pairs from number i on are those after all
-pub record Noting (f P : List ℕ) (first count : ℕ) (a : InputAt) (i n : ℕ) : Type 0 where
-  pub in_table : i + n ≤ pair_count P
-  pub is : input_from f a (run P i n) ≡ input_from f no_input (run P first count)
-
-pub note_first : (f P : List ℕ) (m : MapEntry) → Usable f P m → Noting f P m.first m.count no_input m.first m.count
-note_first f P m u = record { in_table = u.within; is = refl }
-
-pub note_done : (f P : List ℕ) (m : MapEntry) (a : InputAt) (i n : ℕ) → Noting f P m.first m.count a i n → n ≤ 0 → Usable f P m
+-- the fields after the pairs left are those after all
+pub note_done : (f P : List ℕ) (m : MapEntry) (a : InputAt) (left : List PairEntry) → input_from f a left ≡ input_from f no_input (entries_of P m)
+    → left ≡ [] → Usable f P m
     → input_in f a ≡ in_of (map (shown f) (entries_of P m))
-unfolding input_from entries_of
-note_done f P m a i n k h u = ap (input_in f) (sym (ap (input_from f a) (run_none P i n h)) ∙ k.is) ∙ inputs_shown f P m u
+unfolding input_from
+note_done f P m a left k q u = ap (input_in f) (sym (ap (input_from f a) q) ∙ k) ∙ inputs_shown f P m u
 
-module _ (f P : List ℕ) (first count : ℕ) (a : InputAt) (i n : ℕ) (k : Noting f P first count a i n) (h : 0 < n) where
-  pub note_in : i < pair_count P
-  note_in = omega (arith, k.in_table)
-
-  pub note_fits : length P < 2 ^ 64 → Fits w64 (i + 1)
-  note_fits l = next_fits P i n h k.in_table l
-
-  pub note_more : (e : PairEntry) (b : InputAt) → e ≡ pair_at P i → b ≡ note_input f a e → Noting f P first count b (i + 1) (n - 1)
-  unfolding input_from
-  note_more e b p q = record {
-    in_table = omega (arith, k.in_table);
-    is = ap (λ (x : InputAt). input_from f x (run P (i + 1) (n - 1))) (q ∙ ap (note_input f a) p)
-        ∙ sym (ap (input_from f a) (run_one P i n h k.in_table)) ∙ k.is;
-  }
-
-pub ruleset notings = (note_first, note_done, note_in, note_fits, note_more)
+pub note_more : (f : List ℕ) (a b all : InputAt) (left rest : List PairEntry) (e : PairEntry) → input_from f a left ≡ all → left ≡ e ∷ rest
+    → b ≡ note_input f a e
+    → input_from f b rest ≡ all
+unfolding input_from
+note_more f a b all left rest e k q r = ap (λ (x : InputAt). input_from f x rest) r ∙ sym (ap (input_from f a) q) ∙ k

@@ -1,5 +1,5 @@
 -- What all reported maps hold, by the tables' entries, where each map is fit.
-use Rattle.std.specs.Prelude.{ℕ, zero, suc, ◌+◌, ◌≤◌, ◌<◌, ◌≡◌, true, List, [], ◌∷◌, map}
+use Rattle.std.specs.Prelude.{ℕ, zero, suc, ◌+◌, ◌≤◌, ◌<◌, ◌≡◌, true, List, [], ◌∷◌, map, Err}
 use Rattle.format.specs.Content.{Pair}
 use Rattle.format.specs.Entries.{shown}
 use Rattle.format.specs.Tables.{fit, Gathered, unfit, gathered, maps_reported}
@@ -7,15 +7,14 @@ use Rattle.format.specs.Locks.{In, in_of}
 use Rattle.format.specs.Scripts.{Out, out_of}
 use Rattle.format.specs.declared.MapEntry.{MapEntry}
 use Rattle.format.specs.declared.Psbt.{Psbt}
-use Rattle.format.specs.declared.Ruled.{Ruled}
-use Rattle.format.specs.declared.Ruled.TheVariants.{Passed, Refused}
+use Rattle.format.specs.Answers.{passed, Ruled}
 use Rattle.entries.specs.Words.{pair_count, map_count, map_at}
 use Rattle.fitness.specs.Fits.{entries_of}
 
 -- whether maps are fit, by what they show
 unfoldable pub ruled_by : Gathered → Ruled
-ruled_by (unfit e) = Refused e
-ruled_by (gathered l) = Passed
+ruled_by (unfit e) = Err e
+ruled_by (gathered l) = passed
 
 -- a map's pairs are in the table, and fit
 pub record Usable (f P : List ℕ) (m : MapEntry) : Type 0 where

@@ -1,27 +1,28 @@
 -- Where the fields of a map stand, and what such a place shows.
-use Rattle.std.specs.Prelude.{ℕ, Bool, List, [], ◌∷◌, take, drop, eqb}
+use Rattle.std.specs.Prelude.{ℕ, Bool, List, [], ◌∷◌, take, drop, eqb, Ok, Err, Some, None, Option}
 use Rattle.format.specs.Tests.{pick}
 use Rattle.format.specs.Keys.{key_of, same}
 use Rattle.format.specs.Entries.{key_in_def}
 use Rattle.format.specs.Content.{Found, absent, found}
 use Rattle.format.specs.Lookups.{place}
 use Rattle.format.specs.Locks.{Sized, missing, misfit, is, In}
+use Rattle.format.specs.declared.Part.{Part}
 use Rattle.format.specs.declared.PairEntry.{PairEntry}
 use Rattle.format.specs.declared.MapEntry.{MapEntry}
-use Rattle.format.specs.declared.Looked.{Looked}
-use Rattle.format.specs.declared.Looked.TheVariants as K
+use Rattle.format.specs.Answers.{part_at, Looked}
 use Rattle.fitness.specs.Fits.{entries_of}
-use Rattle.all_maps_fit.specs.declared.FoundAt.{FoundAt}
-use Rattle.all_maps_fit.specs.declared.FoundAt.TheVariants as F
 use Rattle.all_maps_fit.specs.declared.SizedAt.{SizedAt}
 use Rattle.all_maps_fit.specs.declared.SizedAt.TheVariants as S
 use Rattle.all_maps_fit.specs.declared.InputAt.{InputAt}
 
+-- where a field stands, if it does
+abbrev pub FoundAt : Type 0
+FoundAt = Option Part
+
 -- the place of a field, by where its key was found; finding in a fit map refuses nothing
 unfoldable pub found_at : Looked → FoundAt
-found_at (K.Refused e) = F.Missing
-found_at K.Absent = F.Missing
-found_at (K.At s n) = F.At s n
+found_at (Err e) = None
+found_at (Ok x) = x
 
 -- the place of the field of a type without key data
 unfoldable pub field_at : List ℕ → List ℕ → ℕ → MapEntry → FoundAt
@@ -29,13 +30,13 @@ field_at f P t m = found_at (place f (key_of t []) (entries_of P m))
 
 -- the place of a field that must have w bytes
 unfoldable pub sized_at : ℕ → FoundAt → SizedAt
-sized_at w F.Missing = S.Missing
-sized_at w (F.At s n) = pick (eqb n w) (S.At s) S.Misfit
+sized_at w None = S.Missing
+sized_at w (Some p) = pick (eqb p.len w) (S.At p.start) S.Misfit
 
 -- the value that stands at a place
 unfoldable pub found_in_def : List ℕ → FoundAt → Found
-found_in_def f F.Missing = absent
-found_in_def f (F.At s n) = found (take n (drop s f))
+found_in_def f None = absent
+found_in_def f (Some p) = found (take p.len (drop p.start f))
 
 -- the value of w bytes that stands at a place
 unfoldable pub sized_in : ℕ → List ℕ → SizedAt → Sized
@@ -45,7 +46,7 @@ sized_in w f (S.At s) = is (take w (drop s f))
 
 -- the place of a field of w bytes after pair e, which is its own or isn't: the first of its own stays
 unfoldable pub noted_at : SizedAt → Bool → ℕ → PairEntry → SizedAt
-noted_at S.Missing own w e = pick own (sized_at w (F.At e.value e.vlen)) S.Missing
+noted_at S.Missing own w e = pick own (sized_at w (Some (part_at e.value e.vlen))) S.Missing
 noted_at S.Misfit own w e = S.Misfit
 noted_at (S.At s) own w e = S.At s
 

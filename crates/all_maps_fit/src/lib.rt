@@ -11,21 +11,12 @@ ghost use Rattle.fitness.specs.Fits.{entries_of};
 ghost use Rattle.all_maps_fit.specs.Alls.{ruled_by, Usable};
 ghost use Rattle.all_maps_fit.specs.Places.{field_at, sized_at, sized_in, noted_at, note_input, input_in};
 
-use fitness::Fit;
 use format::{
-    Looked, MapEntry, PSBT_IN_OUTPUT_INDEX, PSBT_IN_PREVIOUS_TXID,
-    PSBT_IN_REQUIRED_HEIGHT_LOCKTIME, PSBT_IN_REQUIRED_TIME_LOCKTIME, PSBT_IN_SEQUENCE, PairEntry,
-    Psbt, Ruled,
+    MapEntry, PSBT_IN_OUTPUT_INDEX, PSBT_IN_PREVIOUS_TXID, PSBT_IN_REQUIRED_HEIGHT_LOCKTIME,
+    PSBT_IN_REQUIRED_TIME_LOCKTIME, PSBT_IN_SEQUENCE, PairEntry, Part, Psbt, PsbtError,
 };
 
-// Where the field of a type stands in a map: start and length of its value.
-#[derive(Clone, Copy)]
-pub enum FoundAt {
-    Missing,
-    At { start: usize, len: usize },
-}
-
-// The same of a field that must have some number of bytes.
+// Where a field stands that must have some number of bytes.
 #[derive(Clone, Copy)]
 pub enum SizedAt {
     Missing,
@@ -34,21 +25,15 @@ pub enum SizedAt {
 }
 
 // Each reported map is fit, or the refusal of the first that is not.
-pub fn all_fit(file: &[u8], pairs: &[u32], maps: &[u32], psbt: Psbt) -> Ruled
+pub fn all_fit(file: &[u8], pairs: &[u32], maps: &[u32], psbt: Psbt) -> Result<(), PsbtError>
     ensures { result ≡ ruled_by (gather (view file.now pairs.now maps.now psbt) 0 (maps_reported psbt)) }
 {
-    let mut m: u64 = 0;
-    while fitness::is_reported(psbt, m) {
-        match fitness::fit_map(file, pairs, maps, psbt, m) {
-            Fit::Refused(e) => {
-                return Ruled::Refused(e);
-            }
-            Fit::Is(_) => {
-                m = m + 1;
-            }
-        }
+    // Where the number of maps passes 64 bits, one that the table doesn't have is refused before.
+    let reported = psbt.inputs.saturating_add(psbt.outputs).saturating_add(1);
+    for m in 0..reported {
+        fitness::fit_map(file, pairs, maps, psbt, m)?;
     }
-    Ruled::Passed
+    Ok(())
 }
 
 // The map entry of input number `i`.
@@ -68,30 +53,21 @@ pub fn output_entry(maps: &[u32], psbt: Psbt, i: u64) -> MapEntry
 }
 
 // The field of a type without key data, in a map whose pairs are in the table.
-pub fn found_field(file: &[u8], pairs: &[u32], m: MapEntry, key_type: u8) -> FoundAt
+pub fn found_field(file: &[u8], pairs: &[u32], m: MapEntry, key_type: u8) -> Option<Part>
     requires { m.first + m.count ≤ pair_count pairs.now }
     ensures { result ≡ field_at file.now pairs.now key_type m }
 {
-    match lookup::find_place(file, pairs, m, key_type, &file[..0]) {
-        Looked::Refused(_) => FoundAt::Missing,
-        Looked::Absent => FoundAt::Missing,
-        Looked::At { start, len } => FoundAt::At { start, len },
-    }
+    lookup::find_place(file, pairs, m, key_type, &file[..0])
 }
 
 // The field that was found, by whether it has `width` bytes.
-fn sized(found: FoundAt, width: usize) -> SizedAt
+fn sized(found: Option<Part>, width: usize) -> SizedAt
     ensures { result ≡ sized_at width found }
 {
     match found {
-        FoundAt::Missing => SizedAt::Missing,
-        FoundAt::At { start, len } => {
-            if len == width {
-                SizedAt::At { start }
-            } else {
-                SizedAt::Misfit
-            }
-        }
+        None => SizedAt::Missing,
+        Some(p) if p.len == width => SizedAt::At { start: p.start },
+        Some(_) => SizedAt::Misfit,
     }
 }
 
@@ -120,19 +96,17 @@ fn noted(old: SizedAt, own: bool, width: usize, e: PairEntry) -> SizedAt
 {
     match old {
         SizedAt::Missing => {
-            if own {
-                return sized(
-                    FoundAt::At {
-                        start: e.value,
-                        len: e.vlen,
-                    },
-                    width,
-                );
+            if !own {
+                return old;
             }
-            SizedAt::Missing
+            let value = Part {
+                start: e.value,
+                len: e.vlen,
+            };
+            sized(Some(value), width)
         }
-        SizedAt::Misfit => SizedAt::Misfit,
-        SizedAt::At { start } => SizedAt::At { start },
+        SizedAt::Misfit => old,
+        SizedAt::At { .. } => old,
     }
 }
 
@@ -144,23 +118,18 @@ fn note_input(file: &[u8], old: InputAt, e: PairEntry) -> InputAt
     if key.len() != 1 {
         return old;
     }
-    let txid = old.txid;
-    let index = old.index;
-    let sequence = old.sequence;
-    let time = old.time;
-    let height = old.height;
     InputAt {
-        txid: noted(txid, keys::is_bare(key, PSBT_IN_PREVIOUS_TXID), 32, e),
-        index: noted(index, keys::is_bare(key, PSBT_IN_OUTPUT_INDEX), 4, e),
-        sequence: noted(sequence, keys::is_bare(key, PSBT_IN_SEQUENCE), 4, e),
+        txid: noted(old.txid, keys::is_bare(key, PSBT_IN_PREVIOUS_TXID), 32, e),
+        index: noted(old.index, keys::is_bare(key, PSBT_IN_OUTPUT_INDEX), 4, e),
+        sequence: noted(old.sequence, keys::is_bare(key, PSBT_IN_SEQUENCE), 4, e),
         time: noted(
-            time,
+            old.time,
             keys::is_bare(key, PSBT_IN_REQUIRED_TIME_LOCKTIME),
             4,
             e,
         ),
         height: noted(
-            height,
+            old.height,
             keys::is_bare(key, PSBT_IN_REQUIRED_HEIGHT_LOCKTIME),
             4,
             e,
@@ -180,12 +149,8 @@ pub fn input_at(file: &[u8], pairs: &[u32], m: MapEntry) -> InputAt
         time: SizedAt::Missing,
         height: SizedAt::Missing,
     };
-    let mut i = m.first;
-    let mut left = m.count;
-    while 0 < left {
-        at = note_input(file, at, entries::pair_entry(pairs, i));
-        i = i + 1;
-        left = left - 1;
+    for e in entries::pairs_of(pairs, m) {
+        at = note_input(file, at, e);
     }
     at
 }

@@ -1,10 +1,10 @@
 // The calls by their numbers: how one is read, and what it asks of the functions that firmware calls.
 ghost use Rattle.std.specs.Prelude.{◌<◌};
 
-use crate::memory::{least, part, store_numbers};
+use crate::memory::{part, store_numbers};
 use export_words::{psbt_of, state_of};
-use format::Assignment;
-use wire::{Cursor, SizeRead};
+use format::{Assignment, PsbtError};
+use wire::Cursor;
 
 // How many calls there are.
 const CALLS: u8 = 55;
@@ -12,61 +12,39 @@ const CALLS: u8 = 55;
 // How many arguments a call has at most.
 const MOST: usize = 8;
 
-// A call's number, and where the next one begins: 0 where there is none. The arguments are read beside it.
+// A call's number, and where the next one begins. The arguments are read beside it.
 #[derive(Clone, Copy)]
 pub struct Call {
     pub number: u8,
     pub next: usize,
 }
 
-// Reads arguments, and answers the place behind them: 0 where the body ends before.
-fn read_args(body: &[u8], at: usize, count: usize, args: &mut [u64; 8]) -> usize {
-    let mut to = at;
-    let mut i: usize = 0;
-    while i < MOST {
-        if i == count {
-            return to;
-        }
-        match Cursor::new(to).read_compact_size(body) {
-            SizeRead::Bad(_) => {
-                return 0;
-            }
-            SizeRead::Read { value, next } => {
-                args[i] = value;
-                to = next.pos;
-                i = i + 1;
-            }
-        }
+// Reads arguments, and answers the place behind them.
+fn read_args(
+    body: &[u8],
+    at: usize,
+    count: usize,
+    args: &mut [u64; 8],
+) -> Result<usize, PsbtError> {
+    let mut cursor = Cursor::new(at);
+    for arg in args.iter_mut().take(count) {
+        (*arg, cursor) = cursor.read_compact_size(body)?;
     }
-    to
+    Ok(cursor.pos)
 }
 
-// A count.
-fn size(x: u8) -> usize {
-    x as usize
-}
-
-// A call whose arguments end at `next`: none, where its number is unknown or it has too many.
-fn known(number: u8, count: usize, next: usize) -> Call {
-    if CALLS <= number {
-        return Call { number, next: 0 };
+// Reads a call: none where the body ends before it does, its number is unknown or it has too many arguments.
+pub fn read_call(body: &[u8], at: usize, args: &mut [u64; 8]) -> Option<Call> {
+    if body.len() < 2 || body.len() - 2 < at {
+        return None;
     }
-    if MOST < count {
-        return Call { number, next: 0 };
+    let number = body[at];
+    let count = usize::from(body[at + 1]);
+    if CALLS <= number || MOST < count {
+        return None;
     }
-    Call { number, next }
-}
-
-// Reads a call.
-pub fn read_call(body: &[u8], at: usize, args: &mut [u64; 8]) -> Call {
-    if body.len() < 2 {
-        return known(CALLS, 0, 0);
-    }
-    if body.len() - 2 < at {
-        return known(CALLS, 0, 0);
-    }
-    let count = size(body[at + 1]);
-    known(body[at], count, read_args(body, at + 2, count, args))
+    let next = read_args(body, at + 2, count, args).ok()?;
+    Some(Call { number, next })
 }
 
 // A part of the buffer.
@@ -270,9 +248,9 @@ pub fn parse(
     map_room: usize,
     answer: &mut [u64; 8],
 ) -> u64 {
-    let p = least(pair_room, pairs.len());
-    let m = least(map_room, maps.len());
-    exports::fastpsbt_parse(file, &mut pairs[0..p], &mut maps[0..m], answer)
+    let p = pair_room.min(pairs.len());
+    let m = map_room.min(maps.len());
+    exports::fastpsbt_parse(file, &mut pairs[..p], &mut maps[..m], answer)
 }
 
 // Writes the transaction into the first bytes of a memory.
@@ -288,7 +266,7 @@ pub fn write_tx(
     room: usize,
     answer: &mut [u64; 8],
 ) -> u64 {
-    let o = least(room, out.len());
+    let o = room.min(out.len());
     exports::fastpsbt_unsigned_tx(
         file,
         pairs,
@@ -297,7 +275,7 @@ pub fn write_tx(
         set,
         written,
         scripts,
-        &mut out[0..o],
+        &mut out[..o],
         answer,
     )
 }
@@ -369,19 +347,19 @@ pub fn set_scripts(
 ) -> u64 {
     let mut list = [0u64; 1542];
     store_numbers(&mut list, numbers);
-    let l = least(numbers.len() / 8, list.len());
-    let s = least(room, scripts.len());
+    let l = (numbers.len() / 8).min(list.len());
+    let s = room.min(scripts.len());
     set_by(
         call,
         file,
         pairs,
         maps,
         report,
-        &list[0..l],
+        &list[..l],
         buffer,
         set,
         written,
-        &mut scripts[0..s],
+        &mut scripts[..s],
         answer,
     )
 }

@@ -17,14 +17,11 @@ fn put_word(out: &mut [u8], at: usize, n: u64) -> usize {
 fn put_words(out: &mut [u8], at: usize, words: &[u64]) -> usize {
     let mut to = at;
     let mut end = at;
-    let mut i: usize = 0;
-    while i < words.len() {
-        let w = words[i];
-        to = put_word(out, to, w);
-        if w != 0 {
+    for w in words {
+        to = put_word(out, to, *w);
+        if *w != 0 {
             end = to;
         }
-        i = i + 1;
     }
     end
 }
@@ -37,45 +34,20 @@ pub fn put_answer(out: &mut [u8], at: usize, call: u8, number: u64, words: &[u64
 }
 
 // How many cells of a memory are not as they were filled, or stand before one that isn't.
-fn used_cells(table: &[u32]) -> usize
-    ensures { result ≤ length table.now }
+fn used<T: Copy + PartialEq>(memory: &[T], filled: T) -> usize
+    ensures { result ≤ length memory.now }
 {
-    let mut n = table.len();
-    while 0 < n {
-        if table[n - 1] != FILL_CELL {
-            return n;
-        }
-        n = n - 1;
-    }
-    0
-}
-
-// The same of bytes.
-fn used_bytes(bytes: &[u8]) -> usize
-    ensures { result ≤ length bytes.now }
-{
-    let mut n = bytes.len();
-    while 0 < n {
-        if bytes[n - 1] != FILL {
-            return n;
-        }
-        n = n - 1;
-    }
-    0
-}
-
-// A cell as a number.
-fn wide(x: u32) -> u64 {
-    x as u64
+    memory
+        .iter()
+        .rposition(|cell| *cell != filled)
+        .map_or(0, |last| last + 1)
 }
 
 // Cells, each behind a space.
 fn put_cells(out: &mut [u8], at: usize, cells: &[u32]) -> usize {
     let mut to = at;
-    let mut i: usize = 0;
-    while i < cells.len() {
-        to = put_word(out, to, wide(cells[i]));
-        i = i + 1;
+    for cell in cells {
+        to = put_word(out, to, u64::from(*cell));
     }
     to
 }
@@ -88,15 +60,15 @@ fn put_colon(out: &mut [u8], at: usize) -> usize {
 
 // The used cells of a table behind a colon.
 pub fn put_table(out: &mut [u8], at: usize, table: &[u32]) -> usize {
-    let n = used_cells(table);
+    let n = used(table, FILL_CELL);
     let to = put_colon(out, at);
-    put_cells(out, to, &table[0..n])
+    put_cells(out, to, &table[..n])
 }
 
 // Bytes behind a colon.
 fn put_run(out: &mut [u8], at: usize, bytes: &[u8]) -> usize {
     let to = put_colon(out, at);
-    if bytes.len() == 0 {
+    if bytes.is_empty() {
         return to;
     }
     let to = put_byte(out, to, b' ');
@@ -105,8 +77,8 @@ fn put_run(out: &mut [u8], at: usize, bytes: &[u8]) -> usize {
 
 // The used bytes of a memory.
 pub fn put_bytes(out: &mut [u8], at: usize, memory: &[u8]) -> usize {
-    let n = used_bytes(memory);
-    put_run(out, at, &memory[0..n])
+    let n = used(memory, FILL);
+    put_run(out, at, &memory[..n])
 }
 
 // The front of a part.

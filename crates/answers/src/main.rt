@@ -45,9 +45,10 @@ fn begin() -> Stand {
 
 // A file takes all other memory back.
 fn taken_back(stand: Stand) -> Stand {
-    let mut s = begin();
-    s.at = stand.at;
-    s
+    Stand {
+        at: stand.at,
+        ..begin()
+    }
 }
 
 // So many cells of a kind are lent.
@@ -136,9 +137,7 @@ fn next_record<R: Read>(
 
 // The lines end there.
 fn put_to(stand: Stand, at: usize) -> Stand {
-    let mut s = stand;
-    s.at = at;
-    s
+    Stand { at, ..stand }
 }
 
 // The lines end there, and an accepted parse leaves its report.
@@ -244,10 +243,7 @@ fn answer_tx(
 
 // The calls that hand back a part.
 fn has_part(call: u8) -> bool {
-    match call {
-        49..=53 => true,
-        _ => false,
-    }
+    matches!(call, 49..=53)
 }
 
 // The line of any other call.
@@ -372,11 +368,10 @@ fn next_call<W: Write>(
 ) -> io::Result<Stand> {
     let mut s = stand;
     let mut args = [0u64; 8];
-    let call = read_call(part(texts, BODY, stand.end), stand.next, &mut args);
-    if call.next == 0 {
+    let Some(call) = read_call(part(texts, BODY, stand.end), stand.next, &mut args) else {
         s.how = CUT;
         return Ok(s);
-    }
+    };
     s.next = call.next;
     let done = answer(
         s,
@@ -433,15 +428,13 @@ fn run<R: Read, W: Write>(
     lines: &mut [u8; 524288],
 ) -> io::Result<()> {
     let mut stand = begin();
-    let mut turns = u64::MAX;
-    while 0 < turns {
+    for _ in 0..u64::MAX {
         stand = turn(
             stand, input, output, texts, pairs, maps, scripts, out, lines,
         )?;
         if stand.how != 0 {
             return finish(output, lines, stand.at, stand.how);
         }
-        turns = turns - 1;
     }
     Ok(())
 }

@@ -1,8 +1,6 @@
 // Memory that records lend. What calls only read stands in one array, its texts: the file, the buffer, the list and the body of
 // the record at hand, one behind the other. What calls write has an array each.
-ghost use Rattle.std.specs.Prelude.{◌≤◌};
-
-use format::{LIMIT, Looked};
+use format::{LIMIT, Part};
 use lookup::part_of;
 use rooms::read_full;
 use std::io::{self, Read};
@@ -57,22 +55,14 @@ pub struct Record {
     pub size: usize,
 }
 
-// The smaller of two numbers.
-pub fn least(a: usize, b: usize) -> usize
-    ensures { result ≤ b }
-{
-    if a < b { a } else { b }
-}
-
 // `len` bytes from `start` on, as many as there are.
 pub fn part(s: &[u8], start: usize, len: usize) -> &[u8] {
-    part_of(s, Looked::At { start, len })
+    part_of(s, Ok(Some(Part { start, len })))
 }
 
 // The first `n` cells, as many as there are.
 pub fn cells(table: &[u32], n: usize) -> &[u32] {
-    let end = least(n, table.len());
-    &table[0..end]
+    &table[..n.min(table.len())]
 }
 
 // A memory from its numbers.
@@ -126,18 +116,6 @@ fn word(s: &[u8], at: usize) -> usize {
     u32_from_le_bytes(part(s, at, 4)) as usize
 }
 
-// Fills the bytes from `from` on, before `end`.
-fn fill(texts: &mut [u8], from: usize, end: usize) {
-    let mut i = from;
-    while i < texts.len() {
-        if end <= i {
-            return;
-        }
-        texts[i] = FILL;
-        i = i + 1;
-    }
-}
-
 // Reads `length` bytes of the input to `from`, and fills the bytes behind them up to `size`.
 fn read_part<R: Read>(
     input: &mut R,
@@ -146,16 +124,10 @@ fn read_part<R: Read>(
     length: usize,
     size: usize,
 ) -> io::Result<bool> {
-    if texts.len() < from {
+    if texts.len() < from || texts.len() - from < length || texts.len() - from < size {
         return Ok(false);
     }
-    if texts.len() - from < length {
-        return Ok(false);
-    }
-    if texts.len() - from < size {
-        return Ok(false);
-    }
-    fill(texts, from, from + size);
+    texts[from..from + size].fill(FILL);
     let got = read_full(input, &mut texts[from..from + length])?;
     Ok(got == length)
 }
@@ -212,13 +184,8 @@ pub fn read_record<R: Read>(input: &mut R, texts: &mut [u8]) -> io::Result<Recor
 
 // Stores as many cells as the bytes have.
 pub fn store_cells(table: &mut [u32], bytes: &[u8]) {
-    let mut i: usize = 0;
-    while i < table.len() {
-        if bytes.len() / 4 <= i {
-            return;
-        }
-        table[i] = u32_from_le_bytes(part(bytes, i * 4, 4));
-        i = i + 1;
+    for (cell, word) in table.iter_mut().zip(bytes.chunks_exact(4)) {
+        *cell = u32_from_le_bytes(word);
     }
 }
 
@@ -229,9 +196,7 @@ pub fn number(bytes: &[u8], i: usize) -> u64 {
 
 // Stores numbers, 0 where the bytes have ended.
 pub fn store_numbers(list: &mut [u64], bytes: &[u8]) {
-    let mut i: usize = 0;
-    while i < list.len() {
-        list[i] = number(bytes, i);
-        i = i + 1;
+    for (i, cell) in list.iter_mut().enumerate() {
+        *cell = number(bytes, i);
     }
 }

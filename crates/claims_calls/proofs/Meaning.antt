@@ -13,8 +13,7 @@ use Rattle.format.specs.Lookups.{Length, any_length, asked, look, list}
 use Rattle.format.specs.Told.{told_with, told_parsed, told_parse, told_looked, told_listing}
 use Rattle.format.specs.declared.Psbt.{Psbt}
 use Rattle.format.specs.declared.Parsed.TheVariants.{Accepted}
-use Rattle.format.specs.declared.Looked.{Looked}
-use Rattle.format.specs.declared.Listing.{Listing}
+use Rattle.format.specs.Answers.{Listing, Looked}
 use Rattle.format.proofs.Told.{looked_one, numbered_one, listing_one, utxo_one, script_one}
 use Rattle.claims_reading.specs.Shown.{view_by, Accepts}
 use Rattle.claims_reading.proofs.Files.{reading_is}

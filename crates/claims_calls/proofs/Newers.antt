@@ -10,7 +10,7 @@ use Rattle.format.specs.Keys.{type_of, key_of, order}
 use Rattle.format.specs.Rules.{rule, GLOBAL, INPUT, OUTPUT, span, within, listed_types, listed}
 use Rattle.format.specs.Content.{Pair, Map, Content, pair_bytes, pairs_bytes, map_bytes, maps_bytes, bytes, field, counted, modifiable, outputs_rule}
 use Rattle.format.specs.Reading.{limit, accepted, reading}
-use Rattle.format.specs.declared.Order.TheVariants.{Below}
+use Rattle.std.specs.declared.cmp.Ordering.TheVariants.{Less}
 use Rattle.format.proofs.Numbers.{All}
 use Rattle.format.proofs.Compact.{Spells}
 use Rattle.claims_reading.specs.Fine.{Framed, Rises, RisesFile, Keeps, FineMap, FineFile}
@@ -34,7 +34,7 @@ unfolding strike only
 all_strike P k [] a = tt
 all_strike P k (p ∷ ps) a = all_keep P (listed k p.key) p (strike k ps) a.0 (all_strike P k ps a.1)
 
-rises_keep : (last : List ℕ) (t : Bool) (p : Pair) (ps : List Pair) → order last p.key ≡ Below → Rises p.key ps → Rises last (keep_if t p ps)
+rises_keep : (last : List ℕ) (t : Bool) (p : Pair) (ps : List Pair) → order last p.key ≡ Less → Rises p.key ps → Rises last (keep_if t p ps)
 rises_keep last true p ps o h = (o, h)
 rises_keep last false p ps o h = rises_from last p.key ps o h
 

@@ -9,13 +9,7 @@ use Rattle.format.specs.Scripts.{SetOut, set_out_def}
 use Rattle.format.specs.Told.{Told, told_left, told_listing, told_lock, told_looked, told_nth, told_numbered, told_parse, told_parsed}
 use Rattle.format.specs.Told.{told_script, told_set, told_set_out, told_tx, told_tx_out, told_utxo, told_with}
 use Rattle.format.specs.Transaction.{TxOut, tx_out}
-use Rattle.format.specs.declared.Listing.{Listing}
-use Rattle.format.specs.declared.Lock.{Lock}
-use Rattle.format.specs.declared.Looked.{Looked}
-use Rattle.format.specs.declared.Nth.{Nth}
-use Rattle.format.specs.declared.Numbered.{Numbered}
-use Rattle.format.specs.declared.OutputScript.{OutputScript}
-use Rattle.format.specs.declared.Utxo.{Utxo}
+use Rattle.format.specs.Answers.{Decided, Listing, Looked, Nth, Numbered, OutputScript, Utxo}
 use Rattle.format.proofs.Told.{looked_one, numbered_one, listing_one, nth_one, utxo_one, lock_one, script_one, parse_out_one, set_out_one, tx_out_one}
 
 pub one_looked : (d : Told) → One (λ (r : Looked). told_looked r ≡ d)
@@ -33,7 +27,7 @@ one_nth d a b p q = nth_one a b (p ∙ sym q)
 pub one_utxo : (d : Told) → One (λ (r : Utxo). told_utxo r ≡ d)
 one_utxo d a b p q = utxo_one a b (p ∙ sym q)
 
-pub one_lock : (d : Told) → One (λ (r : Lock). told_lock r ≡ d)
+pub one_lock : (d : Told) → One (λ (r : Decided). told_lock r ≡ d)
 one_lock d a b p q = lock_one a b (p ∙ sym q)
 
 pub one_script : (d : Told) → One (λ (r : OutputScript). told_script r ≡ d)

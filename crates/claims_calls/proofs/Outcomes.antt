@@ -5,6 +5,7 @@ use Prim.Native.Nat.{ℕ}
 use mathlib.Core.Path.{◌≡◌}
 use mathlib.Core.List.{List}
 use Rattle.claims_calls.proofs.Ones.{one_listing, one_lock, one_looked, one_nth, one_numbered, one_parsed, one_part, one_script, one_set, one_tx, one_utxo}
+use Rattle.format.specs.Answers.{Decided, Listing, Looked, Nth, Numbered, OutputScript, ScriptsSet, UnsignedTx, Utxo}
 use Rattle.format.specs.Fields.{amount, final_scriptsig, final_scriptwitness, get_witness_utxo, global_proof, global_share, input_participants, input_proof}
 use Rattle.format.specs.Fields.{input_share, non_witness_utxo, out_redeem_script, out_witness_script, output_index, output_participants, partial_sig}
 use Rattle.format.specs.Fields.{participant, participant_count, previous_txid, pub_nonce, redeem_script, required_height_locktime, required_time_locktime}
@@ -18,18 +19,9 @@ use Rattle.format.specs.Told.{told_left, told_listing, told_lock, told_looked, t
 use Rattle.format.specs.Told.{told_set_out, told_tx, told_tx_out, told_utxo, told_with}
 use Rattle.format.specs.Transaction.{lock_decided, output_script_def, script_part, unsigned_tx_def}
 use Rattle.format.specs.declared.Assignment.{Assignment}
-use Rattle.format.specs.declared.Listing.{Listing}
-use Rattle.format.specs.declared.Lock.{Lock}
-use Rattle.format.specs.declared.Looked.{Looked}
-use Rattle.format.specs.declared.Nth.{Nth}
-use Rattle.format.specs.declared.Numbered.{Numbered}
-use Rattle.format.specs.declared.OutputScript.{OutputScript}
 use Rattle.format.specs.declared.Parsed.{Parsed}
 use Rattle.format.specs.declared.Psbt.{Psbt}
-use Rattle.format.specs.declared.ScriptsSet.{ScriptsSet}
 use Rattle.format.specs.declared.State.{State}
-use Rattle.format.specs.declared.UnsignedTx.{UnsignedTx}
-use Rattle.format.specs.declared.Utxo.{Utxo}
 
 -- crates/fastpsbt/src/lib.rt
 pub one_outcome_parse : (file pairs maps : List ℕ)
@@ -41,7 +33,7 @@ pub one_outcome_part_of : (file : List ℕ) (looked : Looked)
 one_outcome_part_of file looked = one_part _
 
 pub one_outcome_lock_decided : (file pairs maps : List ℕ) (psbt : Psbt)
-    → One (λ (r : Lock). told_lock r ≡ told_lock (lock_decided (view file pairs maps psbt) psbt))
+    → One (λ (r : Decided). told_lock r ≡ told_lock (lock_decided (view file pairs maps psbt) psbt))
 one_outcome_lock_decided file pairs maps psbt = one_lock _
 
 pub one_outcome_set_sp_output_scripts : (file pairs maps : List ℕ) (psbt : Psbt) (list buffer : List ℕ) (state : State) (scripts : List ℕ)

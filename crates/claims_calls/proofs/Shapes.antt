@@ -22,13 +22,9 @@ use Rattle.format.specs.declared.PsbtError.TheVariants.{BadValue, OutOfRange, Ba
 use Rattle.format.specs.declared.Psbt.{Psbt}
 use Rattle.format.specs.declared.State.{State}
 use Rattle.format.specs.declared.PairEntry.{PairEntry}
-use Rattle.format.specs.declared.Looked.{Looked}
-use Rattle.format.specs.declared.Looked.TheVariants.{Refused, Absent, At}
-use Rattle.format.specs.declared.Listing.TheVariants as L
-use Rattle.format.specs.declared.Utxo.{Utxo}
-use Rattle.format.specs.declared.Utxo.TheVariants as U
-use Rattle.format.specs.declared.OutputScript.{OutputScript}
-use Rattle.format.specs.declared.OutputScript.TheVariants as O
+use Rattle.format.specs.Answers.{part_at, pairs_at, Looked, OutputScript, Utxo}
+use Rattle.std.specs.Prelude.{Ok, Err, Some, None}
+use Rattle.format.specs.declared.ScriptPlace.TheVariants as O
 use Rattle.format.proofs.Tests.{pick_by, pick_ap, and_left, and_right}
 use Rattle.claims_reading.specs.Fine.{Rises}
 use Rattle.claims_reading.proofs.Shown.{held_shows}
@@ -64,11 +60,11 @@ output_sound f P M s i = pick_by (Sound f) (ltb i s.outputs) _ _ (λ q. held_sou
 
 -- a place lies in the file
 abbrev Lies : List ℕ → Looked → Type 0
-Lies f (Refused e) = Unit {0}
-Lies f Absent = Unit {0}
-Lies f (At s n) = s + n ≤ length f
+Lies f (Err e) = Unit {0}
+Lies f (Ok None) = Unit {0}
+Lies f (Ok (Some p)) = p.start + p.len ≤ length f
 
-value_lies : (f : List ℕ) (e : PairEntry) → in_file f e ≡ true → Lies f (At e.value e.vlen)
+value_lies : (f : List ℕ) (e : PairEntry) → in_file f e ≡ true → Lies f (Ok (Some (part_at e.value e.vlen)))
 unfolding in_file
 value_lies f e h = leb-true _ _ (and_left (leb (e.value + e.vlen) (length f))
     (ltb 0 e.klen) (and_right (leb (e.key + e.klen) (length f)) (leb (e.value + e.vlen) (length f) && ltb 0 e.klen) h))
@@ -87,10 +83,10 @@ place_lies f key (e ∷ es) h =
     (λ q. place_lies f key es (and_right (in_file f e) (every (in_file f) es) h))
 
 value_is : (f : List ℕ) (l : Length) (e : PairEntry) → in_file f e ≡ true
-    → answer_at f (of_length_def l (At e.value e.vlen)) ≡ of_length_in l (found (value_in_def f e))
+    → answer_at f (of_length_def l (Ok (Some (part_at e.value e.vlen)))) ≡ of_length_in l (found (value_in_def f e))
 unfolding answer_at of_length_def of_length_in value_in_def
 value_is f l e h = rw (as_long f e.value e.vlen (value_lies f e h))
-    (pick_ap (answer_at f) (length_fits l e.vlen) (At e.value e.vlen) (Refused BadValue))
+    (pick_ap (answer_at f) (length_fits l e.vlen) (Ok (Some (part_at e.value e.vlen))) (Err BadValue))
 
 place_is : (f : List ℕ) (l : Length) (key : List ℕ) (es : List PairEntry) → every (in_file f) es ≡ true
     → answer_at f (of_length_def l (place f key es)) ≡ of_length_in l (find key (map (shown f) es))
@@ -114,24 +110,25 @@ bytes_inside f s n k m h = ap (take m) (sym (drop-drop k s f)) ∙ sym (take_ins
 
 number_in_lem : (f : List ℕ) (y : Looked) → number_at f y ≡ number_in (answer_at f y)
 unfolding number_at number_in answer_at
-number_in_lem f (Refused e) = refl
-number_in_lem f Absent = refl
-number_in_lem f (At s n) = refl
+number_in_lem f (Err e) = refl
+number_in_lem f (Ok None) = refl
+number_in_lem f (Ok (Some p)) = refl
 
 count_in_lem : (f : List ℕ) (y : Looked) → Lies f y → participant_count y ≡ count_in (answer_at f y)
 unfolding participant_count count_in answer_at
-count_in_lem f (Refused e) h = refl
-count_in_lem f Absent h = refl
-count_in_lem f (At s n) h = rw (as_long f s n h)
+count_in_lem f (Err e) h = refl
+count_in_lem f (Ok None) h = refl
+count_in_lem f (Ok (Some p)) h = rw (as_long f p.start p.len h)
 
 participant_in_lem : (f : List ℕ) (i : ℕ) (y : Looked) → Lies f y → answer_at f (participant i y) ≡ participant_in i (answer_at f y)
 unfolding participant participant_in answer_at
-participant_in_lem f i (Refused e) h = refl
-participant_in_lem f i Absent h = refl
-participant_in_lem f i (At s n) h =
-    rw (as_long f s n h)
-    (pick_ap (answer_at f) (ltb i (n / 33)) _ _
-    ∙ arm (ltb i (n / 33)) _ _ _ (λ q. let l : i < n / 33 = ltb-true i (n / 33) q in ap gives (bytes_inside f s n (33 * i) 33 (omega arith))))
+participant_in_lem f i (Err e) h = refl
+participant_in_lem f i (Ok None) h = refl
+participant_in_lem f i (Ok (Some p)) h =
+    rw (as_long f p.start p.len h)
+    (pick_ap (answer_at f) (ltb i (p.len / 33)) _ _
+    ∙ arm (ltb i (p.len / 33)) _ _ _ (λ q. let l : i < p.len / 33 = ltb-true i (p.len / 33) q in ap gives
+    (bytes_inside f p.start p.len (33 * i) 33 (omega arith))))
 
 utxo_of_lem : (f : List ℕ) (s n : ℕ) → utxo_at f (utxo_of s (take n (drop s f))) ≡ utxo_at (take n (drop s f)) (utxo_of 0 (take n (drop s f)))
 unfolding utxo_at utxo_of
@@ -152,9 +149,9 @@ utxo_of_lem f s n =
 
 utxo_in_lem : (f : List ℕ) (y : Looked) → utxo_at f (utxo_by f y) ≡ utxo_in (answer_at f y)
 unfolding utxo_by utxo_in utxo_at answer_at
-utxo_in_lem f (Refused e) = refl
-utxo_in_lem f Absent = refl
-utxo_in_lem f (At s n) = utxo_of_lem f s n
+utxo_in_lem f (Err e) = refl
+utxo_in_lem f (Ok None) = refl
+utxo_in_lem f (Ok (Some p)) = utxo_of_lem f p.start p.len
 
 -- a script where it was found
 script_in_lem : (f key : List ℕ) (t : State) (i : ℕ) (es : List PairEntry)
@@ -200,7 +197,8 @@ pair_take n j ps =
     short : n ≤ j → length (take n ps) ≤ j
     short h = omega (arith, length-take n ps)
 
-nth_in : (f : List ℕ) (j i n : ℕ) (es : List PairEntry) → nth_of_listing f j (L.Pairs i n) (holds es) ≡ nth_in_def j (list_at f (L.Pairs i n) (holds es))
+nth_in : (f : List ℕ) (j i n : ℕ) (es : List PairEntry) → nth_of_listing f j (Ok (pairs_at i n)) (holds es)
+    ≡ nth_in_def j (list_at f (Ok (pairs_at i n)) (holds es))
 unfolding nth_of_listing nth_in_def list_at nth
 nth_in f j i n es =
     ap (λ (x : Answer Pair). pick (ltb j n) x (refuses OutOfRange)) (nth_of_lem f (i + j) es ∙ pair_drop i j (map (shown f) es))
@@ -214,15 +212,15 @@ part_in_def k (gives x) = k x
 
 pub part_in : (f : List ℕ) (y : Looked) → part f y ≡ part_in_def (λ v. v) (answer_at f y)
 unfolding part part_in_def answer_at
-part_in f (Refused e) = refl
-part_in f Absent = refl
-part_in f (At s n) = refl
+part_in f (Err e) = refl
+part_in f (Ok None) = refl
+part_in f (Ok (Some p)) = refl
 
 utxo_part_lem : (f : List ℕ) (y : Utxo) → utxo_part f y ≡ part_in_def (λ x. x.1) (utxo_at f y)
 unfolding utxo_part part_in_def utxo_at
-utxo_part_lem f (U.Refused e) = refl
-utxo_part_lem f U.Absent = refl
-utxo_part_lem f (U.Is a s n) = refl
+utxo_part_lem f (Err e) = refl
+utxo_part_lem f (Ok None) = refl
+utxo_part_lem f (Ok (Some u)) = refl
 
 -- a script's bytes, with the script table T
 unfoldable pub bytes_with : List ℕ → Script → List ℕ
@@ -231,10 +229,10 @@ bytes_with T (S.in_table s n) = take n (drop s T)
 
 script_part_lem : (f T : List ℕ) (y : OutputScript) → script_part f T y ≡ part_in_def (bytes_with T) (script_at f y)
 unfolding script_part part_in_def script_at bytes_with
-script_part_lem f T (O.Refused e) = refl
-script_part_lem f T O.Absent = refl
-script_part_lem f T (O.InFile s n) = refl
-script_part_lem f T (O.InTable s n) = refl
+script_part_lem f T (Err e) = refl
+script_part_lem f T (Ok None) = refl
+script_part_lem f T (Ok (Some (O.InFile s n))) = refl
+script_part_lem f T (Ok (Some (O.InTable s n))) = refl
 
 -- a call answers by what its map shows
 abbrev pub By : {A : Type 0} → (List ℕ → Held → A) → (View → A) → Type 0
@@ -251,9 +249,9 @@ asked_lies ok l key f (no e) s = tt
 asked_lies ok l key f (holds es) s = pick_by (Lies f) ok _ _ (λ q. of_length (place f key es) (place_lies f key es s.0)) (λ q. tt)
   where
     of_length : (y : Looked) → Lies f y → Lies f (of_length_def l y)
-    of_length (Refused e) w = tt
-    of_length Absent w = tt
-    of_length (At a n) w = pick_by (Lies f) (length_fits l n) _ _ (λ q. w) (λ q. tt)
+    of_length (Err e) w = tt
+    of_length (Ok None) w = tt
+    of_length (Ok (Some p)) w = pick_by (Lies f) (length_fits l p.len) _ _ (λ q. w) (λ q. tt)
 
 pub number_by : (t w : ℕ) → By (number_field t w) (λ v. number_in (look_in_def true (exactly w) (key_of t []) v))
 unfolding number_field part_field_def
@@ -281,7 +279,7 @@ unfolding output_script_def script_in view_of script_at field
 script_by_lem t T n f (no e) s = refl
 script_by_lem t T n f (holds es) s =
     let b = table_fits t (out_of (map (shown f) es) ∷ []) (drop (n * script_entry) T) in
-    pick_ap (script_at f) b (script_place t n (place f (key_of 0x04 []) es)) (O.Refused BadIndex)
+    pick_ap (script_at f) b (script_place t n (place f (key_of 0x04 []) es)) (Err BadIndex)
     ∙ ap (λ (x : Answer Script). pick b x (refuses BadIndex)) (script_in_lem f (key_of 0x04 []) t n es)
 
 pub script_part_by : (t : State) (T : List ℕ) (n : ℕ)

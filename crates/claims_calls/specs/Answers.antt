@@ -1,5 +1,5 @@
 -- What lookups and listings answer, without places: a refusal, absence, or what they name.
-use Rattle.std.specs.Prelude.{ℕ, zero, suc, ◌+◌, ◌*◌, ◌/◌, Bool, List, [], ◌∷◌, map, ltb, length, take, drop}
+use Rattle.std.specs.Prelude.{ℕ, zero, suc, ◌+◌, ◌*◌, ◌/◌, Bool, List, [], ◌∷◌, map, ltb, length, take, drop, Ok, Err, Some, None}
 use Rattle.format.specs.Tests.{pick}
 use Rattle.format.specs.Numbers.{le}
 use Rattle.format.specs.Content.{Pair, Found, absent, found, find, field}
@@ -12,18 +12,8 @@ use Rattle.format.specs.Transaction.{table_fits}
 use Rattle.format.specs.declared.PsbtError.{PsbtError}
 use Rattle.format.specs.declared.PsbtError.TheVariants.{BadValue, OutOfRange, BadIndex}
 use Rattle.format.specs.declared.State.{State}
-use Rattle.format.specs.declared.Looked.{Looked}
-use Rattle.format.specs.declared.Looked.TheVariants.{Refused, Absent, At}
-use Rattle.format.specs.declared.Numbered.{Numbered}
-use Rattle.format.specs.declared.Numbered.TheVariants as N
-use Rattle.format.specs.declared.Listing.{Listing}
-use Rattle.format.specs.declared.Listing.TheVariants as L
-use Rattle.format.specs.declared.Nth.{Nth}
-use Rattle.format.specs.declared.Nth.TheVariants as K
-use Rattle.format.specs.declared.Utxo.{Utxo}
-use Rattle.format.specs.declared.Utxo.TheVariants as U
-use Rattle.format.specs.declared.OutputScript.{OutputScript}
-use Rattle.format.specs.declared.OutputScript.TheVariants as O
+use Rattle.format.specs.Answers.{Listing, Looked, Nth, Numbered, OutputScript, Utxo}
+use Rattle.format.specs.declared.ScriptPlace.TheVariants as O
 
 -- an answer without places
 pub data Answer (A : Type 0) : Type 0 where
@@ -33,9 +23,9 @@ pub data Answer (A : Type 0) : Type 0 where
 
 -- the bytes that a lookup's answer names in the file f
 unfoldable pub answer_at : List ℕ → Looked → Answer (List ℕ)
-answer_at f (Refused e) = refuses e
-answer_at f Absent = lacks
-answer_at f (At s n) = gives (take n (drop s f))
+answer_at f (Err e) = refuses e
+answer_at f (Ok None) = lacks
+answer_at f (Ok (Some p)) = gives (take p.len (drop p.start f))
 
 -- a value of a wrong length is refused
 unfoldable pub of_length_in : Length → Found → Answer (List ℕ)
@@ -49,15 +39,15 @@ look_in_def ok l key (shows ps) = pick ok (of_length_in l (find key ps)) (refuse
 
 -- the number that a value spells
 unfoldable pub number_in : Answer (List ℕ) → Numbered
-number_in (refuses e) = N.Refused e
-number_in lacks = N.Absent
-number_in (gives v) = N.Is (le v)
+number_in (refuses e) = Err e
+number_in lacks = Ok None
+number_in (gives v) = Ok (Some (le v))
 
 -- how many participants a value lists
 unfoldable pub count_in : Answer (List ℕ) → Numbered
-count_in (refuses e) = N.Refused e
-count_in lacks = N.Absent
-count_in (gives v) = N.Is (length v / 33)
+count_in (refuses e) = Err e
+count_in lacks = Ok None
+count_in (gives v) = Ok (Some (length v / 33))
 
 -- participant number i of those
 unfoldable pub participant_in : ℕ → Answer (List ℕ) → Answer (List ℕ)
@@ -67,9 +57,9 @@ participant_in i (gives v) = pick (ltb i (length v / 33)) (gives (take 33 (drop 
 
 -- what a witness UTXO of the file f says: its amount and its script's bytes
 unfoldable pub utxo_at : List ℕ → Utxo → Answer (ℕ × List ℕ)
-utxo_at f (U.Refused e) = refuses e
-utxo_at f U.Absent = lacks
-utxo_at f (U.Is a s n) = gives (a, take n (drop s f))
+utxo_at f (Err e) = refuses e
+utxo_at f (Ok None) = lacks
+utxo_at f (Ok (Some u)) = gives (u.amount, take u.len (drop u.start f))
 
 -- the witness UTXO that a value spells
 unfoldable pub utxo_in : Answer (List ℕ) → Answer (ℕ × List ℕ)
@@ -84,10 +74,10 @@ pub data Script : Type 0 where
 
 -- what an output script's answer names in the file f
 unfoldable pub script_at : List ℕ → OutputScript → Answer Script
-script_at f (O.Refused e) = refuses e
-script_at f O.Absent = lacks
-script_at f (O.InFile s n) = gives (in_file (take n (drop s f)))
-script_at f (O.InTable s n) = gives (in_table s n)
+script_at f (Err e) = refuses e
+script_at f (Ok None) = lacks
+script_at f (Ok (Some (O.InFile s n))) = gives (in_file (take n (drop s f)))
+script_at f (Ok (Some (O.InTable s n))) = gives (in_table s n)
 
 -- the script of output number i: 04, else the one set
 unfoldable pub script_found : State → ℕ → Found → Answer Script
@@ -101,9 +91,9 @@ script_in t T i (shows ps) = pick (table_fits t (out_of ps ∷ []) (drop (i * sc
 
 -- the pairs that a listing names in its map, or the refusal
 unfoldable pub list_at : List ℕ → Listing → Held → View
-list_at f (L.Refused e) h = hides e
-list_at f (L.Pairs i n) (no e) = hides e
-list_at f (L.Pairs i n) (holds es) = shows (take n (drop i (map (shown f) es)))
+list_at f (Err e) h = hides e
+list_at f (Ok l) (no e) = hides e
+list_at f (Ok l) (holds es) = shows (take l.count (drop l.first (map (shown f) es)))
 
 -- the pairs of a type in a map that shows its pairs, or the refusal
 unfoldable pub list_in : ℕ → View → View
@@ -112,13 +102,13 @@ list_in t (shows ps) = shows (listing t ps)
 
 -- the pair that an answer by pair number names in the file f
 unfoldable pub nth_at : List ℕ → Nth → Answer Pair
-nth_at f (K.Refused e) = refuses e
-nth_at f (K.Is e) = gives (shown f e)
+nth_at f (Err e) = refuses e
+nth_at f (Ok e) = gives (shown f e)
 
 -- pair number j of those that a listing names, asked by its number in the map
 unfoldable pub nth_of_listing : List ℕ → ℕ → Listing → Held → Answer Pair
-nth_of_listing f j (L.Refused e) h = refuses e
-nth_of_listing f j (L.Pairs i n) h = pick (ltb j n) (nth_at f (nth (i + j) h)) (refuses OutOfRange)
+nth_of_listing f j (Err e) h = refuses e
+nth_of_listing f j (Ok l) h = pick (ltb j l.count) (nth_at f (nth (l.first + j) h)) (refuses OutOfRange)
 
 -- pair number j of a list of pairs
 unfoldable pub pair_of : ℕ → List Pair → Answer Pair

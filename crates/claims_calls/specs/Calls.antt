@@ -15,7 +15,7 @@ use Rattle.format.specs.Scripts.{Given, set_scripts}
 use Rattle.format.specs.Transaction.{unsigned_tx_def, lock_decided, output_script_def, script_part}
 use Rattle.format.specs.declared.Psbt.{Psbt}
 use Rattle.format.specs.declared.State.{State}
-use Rattle.format.specs.declared.Looked.{Looked}
+use Rattle.format.specs.Answers.{Looked}
 use Rattle.format.specs.declared.Parsed.TheVariants.{Accepted}
 use Rattle.claims_reading.specs.Shown.{pairs_in, pair_table, map_table}
 use Rattle.claims_calls.specs.Answers.{Answer, answer_at, utxo_at, script_at, list_at, nth_of_listing}

@@ -9,11 +9,7 @@ use Rattle.format.specs.Transaction.{output_script_def}
 use Rattle.format.specs.Told.{told_looked, told_numbered, told_listing, told_utxo, told_script}
 use Rattle.format.specs.declared.Psbt.{Psbt}
 use Rattle.format.specs.declared.State.{State}
-use Rattle.format.specs.declared.Looked.{Looked}
-use Rattle.format.specs.declared.Numbered.{Numbered}
-use Rattle.format.specs.declared.Listing.{Listing}
-use Rattle.format.specs.declared.Utxo.{Utxo}
-use Rattle.format.specs.declared.OutputScript.{OutputScript}
+use Rattle.format.specs.Answers.{Listing, Looked, Numbered, OutputScript, Utxo}
 use Rattle.claims_reading.specs.Shown.{view_by}
 use Rattle.claims_calls.specs.Answers.{answer_at, look_in_def, number_in, count_in, participant_in, utxo_at, utxo_in, script_at, script_in, list_at, list_in}
 

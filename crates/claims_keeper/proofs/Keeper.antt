@@ -11,7 +11,8 @@ use Rattle.format.specs.Transaction.{table_fits, tx_reported, tx_out, written, u
 use Rattle.format.specs.declared.PsbtError.TheVariants.{BadValue}
 use Rattle.format.specs.declared.Psbt.{Psbt}
 use Rattle.format.specs.declared.State.{State}
-use Rattle.format.specs.declared.UnsignedTx.TheVariants.{Refused, Written}
+use Rattle.format.specs.Answers.{wrote_tx}
+use Rattle.std.specs.Prelude.{Ok, Err}
 use Rattle.format.proofs.Numbers.{All, Byte}
 use Rattle.claims_reading.specs.Shown.{Accepts}
 use Rattle.claims_reading.proofs.Promised.{promised_accepts}
@@ -38,7 +39,7 @@ module _ (f : List ℕ) (x : Run f) where
       reported_by_lem f _ _ _ _ _ _ _ accepts ∙ ap (λ (d : Content). reports (ins_of d) (outs_of d)) e
 
   -- if bytes were written, the lock that they end in meets and honours every input of the file's content
-  pub keeper_content : All Byte f → (n : ℕ) (t : State) → x.answer ≡ Written n t → (c : Content) → reading f ≡ accepted c → Kept c (lock_written x n)
+  pub keeper_content : All Byte f → (n : ℕ) (t : State) → x.answer ≡ Ok (wrote_tx n t) → (c : Content) → reading f ≡ accepted c → Kept c (lock_written x n)
   unfolding lock_written
   keeper_content bytes n t w c reads =
       let h = subst (AllHonoured (lock_written x n)) (reported_is c reads)
@@ -46,15 +47,15 @@ module _ (f : List ℕ) (x : Run f) where
       record { met = h.0; honoured = h.1 }
 
   -- and the file has a content
-  pub keeper : All Byte f → (n : ℕ) (t : State) → x.answer ≡ Written n t → (c : Content) × (reading f ≡ accepted c) × Kept c (lock_written x n)
+  pub keeper : All Byte f → (n : ℕ) (t : State) → x.answer ≡ Ok (wrote_tx n t) → (c : Content) × (reading f ≡ accepted c) × Kept c (lock_written x n)
   keeper bytes n t w = (accepts.content, accepts.reads, keeper_content bytes n t w accepts.content accepts.reads)
 
   -- if its content asks for a time, and for none that is not below the threshold: refused, and the buffer is as it was
   pub fallen_clock_of_a_file : (c : Content) → reading f ≡ accepted c
-      → FallenTimes (ins_of c) → (x.answer ≡ Refused (fallen_refusal x c)) × (x.buffer_left ≡ x.buffer)
+      → FallenTimes (ins_of c) → (x.answer ≡ Err (fallen_refusal x c)) × (x.buffer_left ≡ x.buffer)
   unfolding unsigned_tx_def written fallen_refusal
   fallen_clock_of_a_file c reads clock =
-      let e : tx_out x.answer x.buffer_left ≡ tx_out (Refused (fallen_refusal x c)) x.buffer =
+      let e : tx_out x.answer x.buffer_left ≡ tx_out (Err (fallen_refusal x c)) x.buffer =
       sym (outcome x.answer x.buffer_left _ x.calls)
       ∙ ap (λ (y : Reported). written x.state x.buffer (tx_reported x.report x.state x.scripts y)) (reported_is c reads)
       ∙ ap (written x.state x.buffer) (fallen_refused x.report x.state x.scripts (ins_of c) (outs_of c) clock) in
@@ -62,6 +63,6 @@ module _ (f : List ℕ) (x : Run f) where
 
   -- with 7 where no scripts were set
   pub fallen_clock_unset : (c : Content) → reading f ≡ accepted c
-      → FallenTimes (ins_of c) → x.state.set ≡ false → (x.answer ≡ Refused BadValue) × (x.buffer_left ≡ x.buffer)
+      → FallenTimes (ins_of c) → x.state.set ≡ false → (x.answer ≡ Err BadValue) × (x.buffer_left ≡ x.buffer)
   unfolding fallen_refusal table_fits
   fallen_clock_unset c reads clock unset = rw unset at (fallen_clock_of_a_file c reads clock)

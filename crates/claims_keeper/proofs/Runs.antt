@@ -6,7 +6,7 @@ use Rattle.std.proofs.Math.ListN.{replicate}
 use Rattle.format.specs.Transaction.{tx_out}
 use Rattle.format.specs.Told.{told_parse, told_tx_out}
 use Rattle.format.specs.ExampleFiles.{psbt_f, fresh}
-use Rattle.format.specs.declared.UnsignedTx.{UnsignedTx}
+use Rattle.format.specs.Answers.{UnsignedTx}
 use Rattle.claims_keeper.specs.Keeper.{Run}
 use Rattle.claims_keeper.specs.Examples.{file_h, file_t, table_left, maps_with, parsed_f, left, parses_h, parses_t, tx_over, lock_kept, clock_refused}
 

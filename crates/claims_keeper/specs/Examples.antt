@@ -1,25 +1,22 @@
 -- File F with a height and with a time, computed: the lock over the tables that the parse left, and over others.
-use Rattle.std.specs.Prelude.{ℕ, ◌≡◌, refl, true, false, List, [], ◌∷◌, ◌++◌}
-use Rattle.std.proofs.Common.{arith, ap}
-use Rattle.std.proofs.Math.Path.{sym}
+use Rattle.std.specs.Prelude.{ℕ, ◌≡◌, refl, true, false, List, [], ◌∷◌, ◌++◌, Ok, Err}
+use Rattle.std.proofs.Common.{arith}
 use Rattle.std.proofs.Math.ListN.{replicate}
 use Rattle.format.specs.Reading.{Verdict, accepted, refused, outcome, reading}
 use Rattle.format.specs.Parse.{ParseOut, out, parsed}
 use Rattle.format.specs.Tables.{view}
 use Rattle.format.specs.Transaction.{TxOut, tx_out, unsigned_tx_def}
-use Rattle.format.specs.Told.{told_parse, told_tx_out}
 use Rattle.format.specs.ExampleFiles.{height, time, script, file_f_with, pairs_e, psbt_e, psbt_f, fresh, tx_e, tx_f}
 use Rattle.format.specs.Computed.{computes}
 use Rattle.format.specs.declared.PsbtError.TheVariants.{BadValue}
 use Rattle.format.specs.declared.Psbt.{Psbt}
 use Rattle.format.specs.declared.State.{State}
 use Rattle.format.specs.declared.Parsed.TheVariants.{Accepted}
-use Rattle.format.specs.declared.UnsignedTx.{UnsignedTx}
-use Rattle.format.specs.declared.UnsignedTx.TheVariants.{Refused, Written}
+use Rattle.format.specs.Answers.{wrote_tx}
 use Rattle.claims_calls.specs.Newer.{ins_of}
 use Rattle.claims_lock.specs.Honours.{by_height, FallenTimes}
 use Rattle.claims_lock.proofs.Honours.{honours_meets}
-use Rattle.claims_keeper.specs.Keeper.{Run, Kept}
+use Rattle.claims_keeper.specs.Keeper.{Kept}
 
 -- a lock that meets and honours every input of an accepted file
 abbrev pub KeptBy : Verdict → ℕ → Type 0
@@ -74,12 +71,12 @@ abbrev after : State
 after = record { set = false; written = true }
 
 -- over what the parse left: the lock 800,000
-pub lock_kept : tx_over file_h (maps_with 3) psbt_f ≡ tx_out (Written 61 after) (tx_f (0x00 ∷ 0x35 ∷ 0x0c ∷ 0x00 ∷ []))
+pub lock_kept : tx_over file_h (maps_with 3) psbt_f ≡ tx_out (Ok (wrote_tx 61 after)) (tx_f (0x00 ∷ 0x35 ∷ 0x0c ∷ 0x00 ∷ []))
 unfolding computes tx_over
 lock_kept = refl
 
 -- and for the second file refusal 7
-pub clock_refused : tx_over file_t (maps_with 3) psbt_f ≡ tx_out (Refused BadValue) (replicate 61 9)
+pub clock_refused : tx_over file_t (maps_with 3) psbt_f ≡ tx_out (Err BadValue) (replicate 61 9)
 unfolding computes tx_over
 clock_refused = refl
 
@@ -97,12 +94,12 @@ unfolding computes outcome reading ins_of
 clock_fallen = ((86_400, 0, (_, refl, refl)), ((λ n e. omega (arith, e)), tt))
 
 -- with one word of the map table changed all maps are still fit, and the lock is 0
-pub word_changed : tx_over file_h (maps_with 2) psbt_f ≡ tx_out (Written 61 after) (tx_f (0 ∷ 0 ∷ 0 ∷ 0 ∷ []))
+pub word_changed : tx_over file_h (maps_with 2) psbt_f ≡ tx_out (Ok (wrote_tx 61 after)) (tx_f (0 ∷ 0 ∷ 0 ∷ 0 ∷ []))
 unfolding computes tx_over
 word_changed = refl
 
 -- so it is with the report of E
-pub report_changed : tx_over file_h (maps_with 3) psbt_e ≡ tx_out (Written 10 after) (tx_e ++ replicate 51 9)
+pub report_changed : tx_over file_h (maps_with 3) psbt_e ≡ tx_out (Ok (wrote_tx 10 after)) (tx_e ++ replicate 51 9)
 unfolding computes tx_over
 report_changed = refl
 

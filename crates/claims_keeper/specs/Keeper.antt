@@ -11,7 +11,7 @@ use Rattle.format.specs.declared.PsbtError.TheVariants.{BadValue, BadIndex}
 use Rattle.format.specs.declared.Psbt.{Psbt}
 use Rattle.format.specs.declared.State.{State}
 use Rattle.format.specs.declared.Parsed.TheVariants.{Accepted}
-use Rattle.format.specs.declared.UnsignedTx.{UnsignedTx}
+use Rattle.format.specs.Answers.{UnsignedTx}
 use Rattle.format.proofs.Numbers.{All}
 use Rattle.claims_calls.specs.Newer.{ins_of, outs_of}
 use Rattle.claims_lock.specs.Honours.{Meets, Honours, lock_in}

@@ -1,5 +1,5 @@
 -- The lock that the call writes honours every input reported.
-use mathlib.Core.Path.{◌≡◌, refl, subst}
+use mathlib.Core.Path.{◌≡◌, refl, subst, ap}
 use mathlib.Core.List.{List, [], ◌∷◌, ◌++◌, map}
 use Prim.Native.Nat.{ℕ, zero, suc, ◌+◌, ◌^◌, ◌<◌}
 use native.Mathlib.Omega.{arith}
@@ -18,7 +18,9 @@ use Rattle.format.specs.Transaction.{Tx, refuses, writes, table_fits, set_so_far
 use Rattle.format.specs.declared.PairEntry.{PairEntry}
 use Rattle.format.specs.declared.Psbt.{Psbt}
 use Rattle.format.specs.declared.State.{State}
-use Rattle.format.specs.declared.UnsignedTx.TheVariants.{Written}
+use Rattle.format.specs.declared.Written.{Written}
+use Rattle.format.specs.Answers.{wrote_tx}
+use Rattle.std.specs.Prelude.{true, Ok}
 use Rattle.format.proofs.Tests.{pick_by}
 use Rattle.format.proofs.Numbers.{All, Byte, le_below, all_split}
 use Rattle.claims_lock.specs.Honours.{Spells, Meets, Honours, lock_in, TimesFit, ByteValues, ShowsBytes}
@@ -98,19 +100,20 @@ unfolding view
 view_bytes f P M s h m ps q = view_bytes_by f (held f P M s m) ps h q
 
 -- a call that writes wrote the transaction's bytes
-pub written_is : (t t' : State) (B B' : List ℕ) (n : ℕ) (x : Tx) → written t B x ≡ tx_out (Written n t') B' → x ≡ writes (take n B')
+pub written_is : (t t' : State) (B B' : List ℕ) (n : ℕ) (x : Tx) → written t B x ≡ tx_out (Ok (wrote_tx n t')) B' → x ≡ writes (take n B')
 unfolding written
 written_is t t' B B' n (refuses e) = λ q. let z : ◌≡◌ {A = ℕ} 0 1 = cc in absurd (omega arith)
 written_is t t' B B' n (writes x) =
-    pick_by (λ (o : TxOut). o ≡ tx_out (Written n t') B' → writes x ≡ writes (take n B')) (leb (length x) (length B)) _ _
+    pick_by (λ (o : TxOut). o ≡ tx_out (Ok (wrote_tx n t')) B' → writes x ≡ writes (take n B')) (leb (length x) (length B)) _ _
     (λ p q.
-    let l : length x ≡ n = cc in
+    let w : wrote_tx (length x) (record { set = t.set; written = true }) ≡ wrote_tx n t' = cc in
+    let l : length x ≡ n = ap (λ (v : Written). v.len) w in
     let e : x ++ drop (length x) B ≡ B' = cc in
     rw (← l, ← e, take-append_seam x (drop (length x) B)))
     (λ p q. let z : ◌≡◌ {A = ℕ} 0 1 = cc in absurd (omega arith))
 
 module _ (v : ℕ → View) (s : Psbt) (t : State) (T B : List ℕ) (ins : List In) (outs : List Out) (r : reported v s ≡ reports ins outs) (bytes : ShowsBytes v)
-    (n : ℕ) (t' : State) (B' : List ℕ) (call : unsigned_tx_def v s t T B ≡ tx_out (Written n t') B') where
+    (n : ℕ) (t' : State) (B' : List ℕ) (call : unsigned_tx_def v s t T B ≡ tx_out (Ok (wrote_tx n t')) B') where
   call_writes : transaction s ins outs (set_so_far t T) ≡ writes (take n B')
   unfolding unsigned_tx_def tx_reported
   call_writes =
@@ -127,5 +130,5 @@ module _ (v : ℕ → View) (s : Psbt) (t : State) (T B : List ℕ) (ins : List 
 -- the same of a file of bytes, whatever its tables hold
 pub file_honours : (f P M : List ℕ) (s : Psbt) (t : State) (T B : List ℕ) (ins : List In) (outs : List Out)
     → All Byte f → reported (view f P M s) s ≡ reports ins outs
-    → (n : ℕ) (t' : State) (B' : List ℕ) → unsigned_tx_def (view f P M s) s t T B ≡ tx_out (Written n t') B' → All (Honours (lock_in (take n B'))) ins
+    → (n : ℕ) (t' : State) (B' : List ℕ) → unsigned_tx_def (view f P M s) s t T B ≡ tx_out (Ok (wrote_tx n t')) B' → All (Honours (lock_in (take n B'))) ins
 file_honours f P M s t T B ins outs h r n t' B' call = call_honours (view f P M s) s t T B ins outs r (view_bytes f P M s h) n t' B' call

@@ -9,8 +9,7 @@ use lib.Dec.{ltb, leb}
 use Rattle.format.specs.Tests.{pick, keep_if}
 use Rattle.format.specs.Locks.{Sized, missing, misfit, is, In, Asked, threshold, along, asked_by_def, heights, times, is_misfit}
 use Rattle.format.specs.Locks.{misfit_by, misfits, greatest, height_lock, time_lock, decide_by, well_formed, decide}
-use Rattle.format.specs.declared.Maybe.{Maybe}
-use Rattle.format.specs.declared.Lock.{Lock}
+use Rattle.format.specs.Answers.{Decided, Maybe}
 use Rattle.format.proofs.Tests.{pick_by, never_true}
 use Rattle.format.proofs.Numbers.{All, all_split}
 use Rattle.claims_lock.specs.Honours.{Spells, AsksHeight, AsksTime, IsMalformed, At, AskedAt, EachAsked, NoneAsked, WellFormed, Greatest, Says}
@@ -104,14 +103,14 @@ module _ (fallback : Maybe) (ins : List In) where
       pick_by (Says fallback ins) (leb threshold (greatest a ts).number) _ _ (λ q. (w, g, leb-true _ _ q)) (λ q. (w, g, leb-false _ _ q))
   says_by (a ∷ hs) (b ∷ ts) h t w = (w, (a.number, h.only.0), (b.number, t.only.0))
 
-  says_formed : (ms : List ℕ) (l : Lock) → All (λ i. (x : In) × At ins i x × IsMalformed x) ms
+  says_formed : (ms : List ℕ) (l : Decided) → All (λ i. (x : In) × At ins i x × IsMalformed x) ms
       → (ms ≡ [] → Says fallback ins l) → Says fallback ins (well_formed ms l)
   unfolding well_formed
   says_formed [] l h k = k refl
   says_formed (i ∷ ms) l h k = h.0
 
   -- an answer is true
-  pub decided : (l : Lock) → decide fallback ins ≡ l → Says fallback ins l
+  pub decided : (l : Decided) → decide fallback ins ≡ l → Says fallback ins l
   unfolding decide heights times misfits misfit_by
   decided l e = subst (Says fallback ins) e
       (says_formed (misfits 0 ins) (decide_by fallback (heights 0 ins) (times 0 ins))

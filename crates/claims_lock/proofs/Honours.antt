@@ -9,8 +9,9 @@ use Rattle.format.specs.Scripts.{Out}
 use Rattle.format.specs.Transaction.{Tx, refuses, writes, tx_with, tx_by, transaction}
 use Rattle.format.specs.declared.PsbtError.TheVariants.{BadValue}
 use Rattle.format.specs.declared.Psbt.{Psbt}
-use Rattle.format.specs.declared.Lock.{Lock}
-use Rattle.format.specs.declared.Lock.TheVariants.{Refused, Height, Time, Fallback, BothKinds, HeightTooGreat, TimeTooSmall, Malformed}
+use Rattle.format.specs.Answers.{Decided}
+use Rattle.std.specs.Prelude.{Ok, Err}
+use Rattle.format.specs.declared.Lock.TheVariants.{Height, Time, Fallback, BothKinds, HeightTooGreat, TimeTooSmall, Malformed}
 use Rattle.format.proofs.Tests.{never_true}
 use Rattle.format.proofs.Numbers.{All}
 use Rattle.claims_lock.specs.Honours.{Spells, AsksHeight, AsksTime, IsMalformed, Meets, Lacking, Honours, asks_nothing, by_height}
@@ -115,16 +116,16 @@ module _ (s : Psbt) (ins : List In) (outs : List Out) (T : List ℕ) where
       (height : (n i : ℕ) → WellFormed ins → Greatest AsksHeight AsksTime n i ins → n < threshold → P (tx_with s ins outs T n))
       (time : (n i : ℕ) → WellFormed ins → Greatest AsksTime AsksHeight n i ins → threshold ≤ n → P (tx_with s ins outs T n))
       (none : WellFormed ins → NoneAsked AsksHeight ins → NoneAsked AsksTime ins → P (tx_with s ins outs T (or_zero s.fallback_locktime))) where
-    lock_by_lem : (l : Lock) → Says s.fallback_locktime ins l → P (tx_by s ins outs T (lock_of l))
+    lock_by_lem : (l : Decided) → Says s.fallback_locktime ins l → P (tx_by s ins outs T (lock_of l))
     unfolding lock_of tx_by
-    lock_by_lem (Refused e) h = absurd h
-    lock_by_lem (Height n i) h = height n i h.0 h.1 h.2
-    lock_by_lem (Time n i) h = time n i h.0 h.1 h.2
-    lock_by_lem (Fallback n) h = subst (λ (m : ℕ). P (tx_with s ins outs T m)) (sym h.3) (none h.0 h.1 h.2)
-    lock_by_lem (BothKinds i j) h = bad
-    lock_by_lem (HeightTooGreat n i) h = bad
-    lock_by_lem (TimeTooSmall n i) h = bad
-    lock_by_lem (Malformed i) h = bad
+    lock_by_lem (Err e) h = absurd h
+    lock_by_lem (Ok (Height n i)) h = height n i h.0 h.1 h.2
+    lock_by_lem (Ok (Time n i)) h = time n i h.0 h.1 h.2
+    lock_by_lem (Ok (Fallback n)) h = subst (λ (m : ℕ). P (tx_with s ins outs T m)) (sym h.3) (none h.0 h.1 h.2)
+    lock_by_lem (Ok (BothKinds i j)) h = bad
+    lock_by_lem (Ok (HeightTooGreat n i)) h = bad
+    lock_by_lem (Ok (TimeTooSmall n i)) h = bad
+    lock_by_lem (Ok (Malformed i)) h = bad
 
     transaction_by : P (transaction s ins outs T)
     unfolding transaction
@@ -200,4 +201,4 @@ module _ (s s' : Psbt) (ins : List In) (outs : List Out) (T : List ℕ) (version
 
   pub fallback_unheard : transaction s ins outs T ≡ transaction s' ins outs T
   unfolding transaction
-  fallback_unheard = same_by _ ∙ ap (λ (l : Lock). tx_by s' ins outs T (lock_of l)) (unheard s.fallback_locktime s'.fallback_locktime ins some)
+  fallback_unheard = same_by _ ∙ ap (λ (l : Decided). tx_by s' ins outs T (lock_of l)) (unheard s.fallback_locktime s'.fallback_locktime ins some)

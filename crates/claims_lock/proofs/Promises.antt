@@ -13,8 +13,8 @@ use Rattle.format.specs.declared.PsbtError.{PsbtError}
 use Rattle.format.specs.declared.PsbtError.TheVariants.{BadValue, BadIndex}
 use Rattle.format.specs.declared.Psbt.{Psbt}
 use Rattle.format.specs.declared.State.{State}
-use Rattle.format.specs.declared.UnsignedTx.{UnsignedTx}
-use Rattle.format.specs.declared.UnsignedTx.TheVariants.{Refused, Written}
+use Rattle.format.specs.Answers.{wrote_tx, UnsignedTx}
+use Rattle.std.specs.Prelude.{Ok, Err}
 use Rattle.format.proofs.Tests.{pick_ap}
 use Rattle.format.proofs.Numbers.{All, Byte}
 use Rattle.format.proofs.Told.{tx_out_one}
@@ -30,7 +30,7 @@ outcome r B' o p = sym (tx_out_one (tx_out r B') o p)
 
 -- a transaction is written only where all maps are fit
 module _ (f P M : List ℕ) (s : Psbt) (t : State) (T B : List ℕ) (bytes : All Byte f) (n : ℕ) (t' : State) (B' : List ℕ)
-    (call : unsigned_tx_def (view f P M s) s t T B ≡ tx_out (Written n t') B') where
+    (call : unsigned_tx_def (view f P M s) s t T B ≡ tx_out (Ok (wrote_tx n t')) B') where
   honoured_by : (x : Reported) → reported (view f P M s) s ≡ x → AllHonoured (lock_in (take n B')) x
   unfolding unsigned_tx_def tx_reported
   honoured_by (unfit_map e) q = never_writes (written_is t t' B B' n (tx_reported s t T (unfit_map e)) (rw q at call))
@@ -42,7 +42,7 @@ module _ (f P M : List ℕ) (s : Psbt) (t : State) (T B : List ℕ) (bytes : All
 -- of any file and tables, and any outcome that meets the promise: if bytes were written, the lock that they end in honours every input that the maps report
 pub written_honours : (f P M : List ℕ) (s : Psbt) (t : State) (T B : List ℕ) → All Byte f
     → (r : UnsignedTx) (B' : List ℕ) → told_left (told_tx r) B' ≡ told_tx_out (unsigned_tx_def (view f P M s) s t T B)
-    → (n : ℕ) (t' : State) → r ≡ Written n t' → AllHonoured (lock_in (take n B')) (reported (view f P M s) s)
+    → (n : ℕ) (t' : State) → r ≡ Ok (wrote_tx n t') → AllHonoured (lock_in (take n B')) (reported (view f P M s) s)
 written_honours f P M s t T B bytes r B' promise n t' w =
     honoured_by f P M s t T B bytes n t' B' (outcome r B' _ promise ∙ ap (λ (x : UnsignedTx). tx_out x B') w) (reported (view f P M s) s) refl
 
@@ -56,7 +56,7 @@ fallen_refused s t T ins outs h =
 
 -- a refusal leaves the buffer as it was
 abbrev Refusal : List ℕ → TxOut → Type 0
-Refusal B o = (e : PsbtError) × (o ≡ tx_out (Refused e) B)
+Refusal B o = (e : PsbtError) × (o ≡ tx_out (Err e) B)
 
 module _ (s : Psbt) (t : State) (T B : List ℕ) where
   fallen_by : (x : Reported) → FallenClock x → Refusal B (written t B (tx_reported s t T x))
@@ -68,9 +68,9 @@ module _ (s : Psbt) (t : State) (T B : List ℕ) where
 -- meets the promise: it is a refusal, and the buffer is as it was
 pub fallen_clock_never : (f P M : List ℕ) (s : Psbt) (t : State) (T B : List ℕ) → FallenClock (reported (view f P M s) s)
     → (r : UnsignedTx) (B' : List ℕ) → told_left (told_tx r) B' ≡ told_tx_out (unsigned_tx_def (view f P M s) s t T B)
-    → ((e : PsbtError) × (r ≡ Refused e)) × (B' ≡ B)
+    → ((e : PsbtError) × (r ≡ Err e)) × (B' ≡ B)
 unfolding unsigned_tx_def
 fallen_clock_never f P M s t T B clock r B' promise =
     let x = fallen_by s t T B (reported (view f P M s) s) clock in
-    let e : tx_out r B' ≡ tx_out (Refused x.0) B = sym (outcome r B' _ promise) ∙ x.1 in
+    let e : tx_out r B' ≡ tx_out (Err x.0) B = sym (outcome r B' _ promise) ∙ x.1 in
     ((x.0, (cc)), (cc))

@@ -1,13 +1,12 @@
 -- What inputs ask of a lock time, and when a lock honours it.
-use Rattle.std.specs.Prelude.{ℕ, zero, suc, ◌-◌, ◌^◌, ◌≤◌, ◌<◌, ◌≡◌, true, ◌||◌, List, [], ◌∷◌, length, drop}
+use Rattle.std.specs.Prelude.{ℕ, zero, suc, ◌-◌, ◌^◌, ◌≤◌, ◌<◌, ◌≡◌, true, ◌||◌, List, [], ◌∷◌, length, drop, Ok, Err}
 use Rattle.format.specs.Numbers.{le}
 use Rattle.format.specs.Content.{Pair}
 use Rattle.format.specs.Tables.{View, shows}
 use Rattle.format.specs.Locks.{Sized, missing, misfit, is, In, threshold, is_misfit, or_zero}
 use Rattle.format.specs.Scripts.{Reported, unfit_map, reports}
-use Rattle.format.specs.declared.Maybe.{Maybe}
-use Rattle.format.specs.declared.Lock.{Lock}
-use Rattle.format.specs.declared.Lock.TheVariants.{Refused, Height, Time, Fallback, BothKinds, HeightTooGreat, TimeTooSmall, Malformed}
+use Rattle.format.specs.Answers.{Decided, Maybe}
+use Rattle.format.specs.declared.Lock.TheVariants.{Height, Time, Fallback, BothKinds, HeightTooGreat, TimeTooSmall, Malformed}
 use Rattle.format.proofs.Numbers.{All, Byte}
 
 -- a field that is there with its right length spells n
@@ -90,15 +89,15 @@ pub record Greatest (asks others : In → ℕ → Type 0) (n i : ℕ) (ins : Lis
   pub alone : NoneAsked others ins
 
 -- what an answer on the lock says of the inputs and the fallback
-abbrev pub Says : Maybe → List In → Lock → Type 0
-Says fallback ins (Refused e) = ⊥
-Says fallback ins (Height n i) = WellFormed ins × Greatest AsksHeight AsksTime n i ins × (n < threshold)
-Says fallback ins (Time n i) = WellFormed ins × Greatest AsksTime AsksHeight n i ins × (threshold ≤ n)
-Says fallback ins (Fallback n) = WellFormed ins × NoneAsked AsksHeight ins × NoneAsked AsksTime ins × (n ≡ or_zero fallback)
-Says fallback ins (BothKinds i j) = WellFormed ins × ((h : ℕ) × AskedAt AsksHeight h i ins) × ((t : ℕ) × AskedAt AsksTime t j ins)
-Says fallback ins (HeightTooGreat n i) = WellFormed ins × Greatest AsksHeight AsksTime n i ins × (threshold ≤ n)
-Says fallback ins (TimeTooSmall n i) = WellFormed ins × Greatest AsksTime AsksHeight n i ins × (n < threshold)
-Says fallback ins (Malformed i) = (x : In) × At ins i x × IsMalformed x
+abbrev pub Says : Maybe → List In → Decided → Type 0
+Says fallback ins (Err e) = ⊥
+Says fallback ins (Ok (Height n i)) = WellFormed ins × Greatest AsksHeight AsksTime n i ins × (n < threshold)
+Says fallback ins (Ok (Time n i)) = WellFormed ins × Greatest AsksTime AsksHeight n i ins × (threshold ≤ n)
+Says fallback ins (Ok (Fallback n)) = WellFormed ins × NoneAsked AsksHeight ins × NoneAsked AsksTime ins × (n ≡ or_zero fallback)
+Says fallback ins (Ok (BothKinds i j)) = WellFormed ins × ((h : ℕ) × AskedAt AsksHeight h i ins) × ((t : ℕ) × AskedAt AsksTime t j ins)
+Says fallback ins (Ok (HeightTooGreat n i)) = WellFormed ins × Greatest AsksHeight AsksTime n i ins × (threshold ≤ n)
+Says fallback ins (Ok (TimeTooSmall n i)) = WellFormed ins × Greatest AsksTime AsksHeight n i ins × (n < threshold)
+Says fallback ins (Ok (Malformed i)) = (x : In) × At ins i x × IsMalformed x
 
 -- maps that report inputs, each of which lock n meets and so honours
 abbrev pub AllHonoured : ℕ → Reported → Type 0

@@ -12,8 +12,8 @@ use Rattle.format.specs.Reading.{limit, FieldRule, Item, stop, over, one, item, 
 use Rattle.format.specs.Reading.{done, refusal, begins, ended, pair_events, map_events, maps_events, unless, Version, two, lastly, global_then}
 use Rattle.format.specs.Reading.{events_of, events, Verdict, accepted, refused, outcome, reading_of, reading}
 use Rattle.format.specs.Tables.{maps_reported}
-use Rattle.format.specs.declared.Ruled.{Ruled}
-use Rattle.format.specs.declared.Ruled.TheVariants.{Passed, Refused}
+use Rattle.format.specs.Answers.{passed, Ruled}
+use Rattle.std.specs.Prelude.{Ok, Err}
 use Rattle.format.proofs.Tests.{pick_by}
 use Rattle.format.proofs.Numbers.{All}
 use Rattle.format.proofs.Compact.{Spells}
@@ -130,10 +130,10 @@ VerdictIs v f (accepted c) = (bytes c ≡ f) × FineOf v c
 abbrev Holds : Version → List ℕ → Reading → Type 0
 Holds v f r = VerdictIs v f (outcome r)
 
-unless_holds : (v : Version) (f : List ℕ) (t : Reading) (y : Ruled) → (y ≡ Passed → Holds v f t) → Holds v f (unless y t)
+unless_holds : (v : Version) (f : List ℕ) (t : Reading) (y : Ruled) → (y ≡ passed → Holds v f t) → Holds v f (unless y t)
 unfolding unless outcome
-unless_holds v f t Passed h = h refl
-unless_holds v f t (Refused e) h = tt
+unless_holds v f t (Ok u) h = h refl
+unless_holds v f t (Err e) h = tt
 
 map_holds : (v : Version) (f : List ℕ) (ρ : FieldRule) (s : List ℕ) (j : Map → List ℕ → Reading)
     → ((m : Map) (r : List ℕ) → map_bytes m r ≡ s → FineMap ρ m → Holds v f (j m r)) → (o : Mapped) → MappedIs ρ [] s o → Holds v f (map_events j o)
@@ -152,7 +152,7 @@ maps_hold v f ρ (suc n) s j h =
 
 module _ (v : Version) (f s : List ℕ) (is : magic ++ s ≡ f) (short : length f ≤ limit) where
   lastly_holds : (g : Map) (ms os : List Map) (q : List ℕ)
-      → map_bytes g (maps_bytes ms (maps_bytes os q)) ≡ s → FineMap v.global g → v.early g.pairs ≡ Passed
+      → map_bytes g (maps_bytes ms (maps_bytes os q)) ≡ s → FineMap v.global g → v.early g.pairs ≡ passed
       → All (FineMap v.input) ms → length ms ≡ v.inputs g.pairs
       → All (FineMap v.output) os → length os ≡ v.outputs g.pairs → Holds v f (lastly v g ms os q)
   unfolding lastly outcome bytes

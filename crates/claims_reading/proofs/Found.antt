@@ -10,8 +10,8 @@ use Rattle.format.specs.Entries.{key_in_def, value_in_def, shown}
 use Rattle.format.specs.Tables.{Held, no, holds, held, view_of, view}
 use Rattle.format.specs.Lookups.{place, any_length, length_fits, of_length_def, asked, look}
 use Rattle.format.specs.declared.PairEntry.{PairEntry}
-use Rattle.format.specs.declared.Looked.{Looked}
-use Rattle.format.specs.declared.Looked.TheVariants.{Refused, Absent, At}
+use Rattle.format.specs.Answers.{Looked}
+use Rattle.std.specs.Prelude.{Ok, Err, Some, None}
 use Rattle.format.proofs.Tests.{pick_ap}
 use Rattle.claims_reading.specs.Shown.{bare, view_by, pair_table, map_table}
 use Rattle.claims_reading.specs.Found.{found_at, find_in}
@@ -27,9 +27,9 @@ place_find f key (e ∷ es) =
 -- a lookup in a map finds what the map shows
 any_length_lem : (y : Looked) → of_length_def any_length y ≡ y
 unfolding of_length_def length_fits
-any_length_lem (Refused e) = refl
-any_length_lem Absent = refl
-any_length_lem (At s n) = refl
+any_length_lem (Err e) = refl
+any_length_lem (Ok None) = refl
+any_length_lem (Ok (Some p)) = refl
 
 pub look_find : (f : List ℕ) (t : ℕ) (d : List ℕ) (h : Held) → found_at f (look f t d h) ≡ find_in (key_of t d) (view_of f h)
 unfolding look asked find_in view_of found_at

@@ -26,23 +26,15 @@ use Rattle.format.specs.Transaction.{inputs_then, needs_script, output_then, out
 use Rattle.format.specs.Transaction.{tx_out, written, unsigned_tx_def, lock_by, lock_decided, script_place, output_script_def}
 use Rattle.format.specs.declared.PsbtError.{PsbtError}
 use Rattle.format.specs.declared.PsbtError.TheVariants.{BadValue, OutOfRange, MissingOutputScript, InvalidOutputScripts, PairsFull, MapsFull, BadIndex, NoRoom}
-use Rattle.format.specs.declared.Maybe.{Maybe}
+use Rattle.format.specs.Answers.{Decided, Looked, Maybe}
+use Rattle.std.specs.Prelude.{Ok, Err, Some, None}
 use Rattle.format.specs.declared.Psbt.{Psbt}
 use Rattle.format.specs.declared.PairEntry.{PairEntry}
 use Rattle.format.specs.declared.MapEntry.{MapEntry}
 use Rattle.format.specs.declared.Parsed.TheVariants as A
-use Rattle.format.specs.declared.Looked.{Looked}
-use Rattle.format.specs.declared.Looked.TheVariants.{Refused, Absent, At}
-use Rattle.format.specs.declared.Numbered.TheVariants as N
-use Rattle.format.specs.declared.Listing.TheVariants as L
-use Rattle.format.specs.declared.Nth.TheVariants as K
-use Rattle.format.specs.declared.Utxo.TheVariants as U
-use Rattle.format.specs.declared.Lock.{Lock}
 use Rattle.format.specs.declared.Lock.TheVariants as W
 use Rattle.format.specs.declared.State.{State}
-use Rattle.format.specs.declared.ScriptsSet.TheVariants as S
-use Rattle.format.specs.declared.UnsignedTx.TheVariants as X
-use Rattle.format.specs.declared.OutputScript.TheVariants as O
+use Rattle.format.specs.declared.ScriptPlace.TheVariants as O
 use Rattle.format.proofs.Tests.{pick_by, and_left}
 use Rattle.claims_reading.specs.Given.{given, of_file, Gives}
 use Rattle.claims_reading.proofs.Orderly.{Orderly, events_orderly}
@@ -137,98 +129,99 @@ module _ (f P M : List ℕ) (s : Psbt) where
       by (holds es) g = λ e q. cc
 
 -- lookups in a map
-place_gives : (f key : List ℕ) (es : List PairEntry) → Gives Refused (place f key es)
+place_gives : (f key : List ℕ) (es : List PairEntry) → Gives Err (place f key es)
 unfolding place
 place_gives f key [] = λ e q. cc
-place_gives f key (x ∷ es) = pick_by (Gives Refused) (same key (key_in_def f x)) _ _ (λ t e q. cc) (λ t. place_gives f key es)
+place_gives f key (x ∷ es) = pick_by (Gives Err) (same key (key_in_def f x)) _ _ (λ t e q. cc) (λ t. place_gives f key es)
 
-length_gives : (l : Length) (y : Looked) → Gives Refused y → Gives Refused (of_length_def l y)
+length_gives : (l : Length) (y : Looked) → Gives Err y → Gives Err (of_length_def l y)
 unfolding of_length_def
-length_gives l (Refused x) g = g
-length_gives l Absent g = g
-length_gives l (At s n) g = pick_by (Gives Refused) (length_fits l n) _ _ (λ t. g) (λ t e q. cc bad_value)
+length_gives l (Err x) g = g
+length_gives l (Ok None) g = g
+length_gives l (Ok (Some p)) g = pick_by (Gives Err) (length_fits l p.len) _ _ (λ t. g) (λ t e q. cc bad_value)
 
 module _ (f : List ℕ) (h : Held) (g : Gives no h) where
-  pub asked_gives : (ok : Bool) (l : Length) (key : List ℕ) → Gives Refused (asked ok l f key h)
+  pub asked_gives : (ok : Bool) (l : Length) (key : List ℕ) → Gives Err (asked ok l f key h)
   unfolding asked
   asked_gives ok l key = by h g
     where
-      by : (h : Held) → Gives no h → Gives Refused (asked ok l f key h)
+      by : (h : Held) → Gives no h → Gives Err (asked ok l f key h)
       by (no x) g = λ e q. cc (g x refl)
-      by (holds es) g = pick_by (Gives Refused) ok _ _ (λ t. length_gives l (place f key es) (place_gives f key es)) (λ t e q. cc bad_value)
+      by (holds es) g = pick_by (Gives Err) ok _ _ (λ t. length_gives l (place f key es) (place_gives f key es)) (λ t e q. cc bad_value)
 
-  pub look_gives : (t : ℕ) (d : List ℕ) → Gives Refused (look f t d h)
+  pub look_gives : (t : ℕ) (d : List ℕ) → Gives Err (look f t d h)
   unfolding look
   look_gives t d = asked_gives true any_length (key_of t d)
 
-  pub part_gives : (t : ℕ) (l : Length) → Gives Refused (part_field_def t l f h)
+  pub part_gives : (t : ℕ) (l : Length) → Gives Err (part_field_def t l f h)
   unfolding part_field_def
   part_gives t l = asked_gives true l (key_of t [])
 
-  pub number_gives : (t w : ℕ) → Gives N.Refused (number_field t w f h)
+  pub number_gives : (t w : ℕ) → Gives Err (number_field t w f h)
   unfolding number_field number_at
   number_gives t w = by (part_field_def t (exactly w) f h) (part_gives t (exactly w))
     where
-      by : (y : Looked) → Gives Refused y → Gives N.Refused (number_at f y)
-      by (Refused x) k = λ e q. cc (k x refl)
-      by Absent k = λ e q. cc
-      by (At s n) k = λ e q. cc
+      by : (y : Looked) → Gives Err y → Gives Err (number_at f y)
+      by (Err x) k = λ e q. cc (k x refl)
+      by (Ok None) k = λ e q. cc
+      by (Ok (Some p)) k = λ e q. cc
 
-  pub scan_gives : (t w : ℕ) (scan : List ℕ) → Gives Refused (scan_lookup t w f scan h)
+  pub scan_gives : (t w : ℕ) (scan : List ℕ) → Gives Err (scan_lookup t w f scan h)
   unfolding scan_lookup
   scan_gives t w scan = asked_gives (eqb (length scan) 33) (exactly w) (key_of t scan)
 
-  pub musig_gives : (t w : ℕ) (participant aggregate leaf : List ℕ) → Gives Refused (musig_lookup t w f participant aggregate leaf h)
+  pub musig_gives : (t w : ℕ) (participant aggregate leaf : List ℕ) → Gives Err (musig_lookup t w f participant aggregate leaf h)
   unfolding musig_lookup
   musig_gives t w participant aggregate leaf = asked_gives _ (exactly w) (key_of t (participant ++ (aggregate ++ leaf)))
 
-  pub input_list_gives : (aggregate leaf : List ℕ) → Gives Refused (input_participants f aggregate leaf h)
+  pub input_list_gives : (aggregate leaf : List ℕ) → Gives Err (input_participants f aggregate leaf h)
   unfolding input_participants
   input_list_gives aggregate leaf = asked_gives _ key_list (key_of 0x1a (aggregate ++ leaf))
 
-  pub output_list_gives : (aggregate : List ℕ) → Gives Refused (output_participants f aggregate h)
+  pub output_list_gives : (aggregate : List ℕ) → Gives Err (output_participants f aggregate h)
   unfolding output_participants
   output_list_gives aggregate = asked_gives _ key_list (key_of 0x08 aggregate)
 
-  pub list_gives : (t : ℕ) → Gives L.Refused (list f t h)
+  pub list_gives : (t : ℕ) → Gives Err (list f t h)
   unfolding list
   list_gives t = by h g
     where
-      by : (h : Held) → Gives no h → Gives L.Refused (list f t h)
+      by : (h : Held) → Gives no h → Gives Err (list f t h)
       by (no x) g = λ e q. cc (g x refl)
       by (holds es) g = λ e q. cc
 
-  pub utxo_gives : Gives U.Refused (get_witness_utxo f h)
+  pub utxo_gives : Gives Err (get_witness_utxo f h)
   unfolding get_witness_utxo witness_utxo_def utxo_by utxo_of
   utxo_gives = by (part_field_def 0x01 any_length f h) (part_gives 0x01 any_length)
     where
-      by : (y : Looked) → Gives Refused y → Gives U.Refused (utxo_by f y)
-      by (Refused x) k = λ e q. cc (k x refl)
-      by Absent k = λ e q. cc
-      by (At s n) k =
-          pick_by (Gives U.Refused) (leb 9 (length (take n (drop s f)))
-          && (leb (get_or (take n (drop s f)) 8 0) 0xfc && eqb (length (take n (drop s f))) (9 + get_or (take n (drop s f)) 8 0))) _ _
+      by : (y : Looked) → Gives Err y → Gives Err (utxo_by f y)
+      by (Err x) k = λ e q. cc (k x refl)
+      by (Ok None) k = λ e q. cc
+      by (Ok (Some p)) k =
+          pick_by (Gives Err) (leb 9 (length (take p.len (drop p.start f)))
+          && (leb (get_or (take p.len (drop p.start f)) 8 0) 0xfc && eqb (length (take p.len (drop p.start f)))
+          (9 + get_or (take p.len (drop p.start f)) 8 0))) _ _
           (λ t e q. cc) (λ t e q. cc bad_value)
 
-pub participant_gives : (i : ℕ) (y : Looked) → Gives Refused y → Gives Refused (participant i y)
+pub participant_gives : (i : ℕ) (y : Looked) → Gives Err y → Gives Err (participant i y)
 unfolding participant
-participant_gives i (Refused x) k = k
-participant_gives i Absent k = k
-participant_gives i (At s n) k = pick_by (Gives Refused) (ltb i (n / 33)) _ _ (λ t e q. cc) (λ t e q. cc out_of_range)
+participant_gives i (Err x) k = k
+participant_gives i (Ok None) k = k
+participant_gives i (Ok (Some p)) k = pick_by (Gives Err) (ltb i (p.len / 33)) _ _ (λ t e q. cc) (λ t e q. cc out_of_range)
 
-pub participants_gives : (y : Looked) → Gives Refused y → Gives N.Refused (participant_count y)
+pub participants_gives : (y : Looked) → Gives Err y → Gives Err (participant_count y)
 unfolding participant_count
-participants_gives (Refused x) k = λ e q. cc (k x refl)
-participants_gives Absent k = λ e q. cc
-participants_gives (At s n) k = λ e q. cc
+participants_gives (Err x) k = λ e q. cc (k x refl)
+participants_gives (Ok None) k = λ e q. cc
+participants_gives (Ok (Some p)) k = λ e q. cc
 
-nth_of_gives : (i : ℕ) (es : List PairEntry) → Gives K.Refused (nth_of i es)
+nth_of_gives : (i : ℕ) (es : List PairEntry) → Gives Err (nth_of i es)
 unfolding nth_of
 nth_of_gives i [] = λ e q. cc out_of_range
 nth_of_gives zero (x ∷ es) = λ e q. cc
 nth_of_gives (suc i) (x ∷ es) = nth_of_gives i es
 
-pub nth_gives : (i : ℕ) (h : Held) → Gives no h → Gives K.Refused (nth i h)
+pub nth_gives : (i : ℕ) (h : Held) → Gives no h → Gives Err (nth i h)
 unfolding nth
 nth_gives i (no x) g = λ e q. cc (g x refl)
 nth_gives i (holds es) g = nth_of_gives i es
@@ -252,50 +245,50 @@ reported_by_gives n (gathered xs) k = λ e q. cc
 
 -- the setter
 set_gives : (buffer : List ℕ) (t : State) (T T' : List ℕ) (a : Given) (r : Reported)
-    → Gives unfit_map r → Gives (λ e. set_out_def (S.Refused e) T') (set_by buffer t T a r)
+    → Gives unfit_map r → Gives (λ e. set_out_def (Err e) T') (set_by buffer t T a r)
 unfolding set_by set_given set_table
 set_gives buffer t T T' a (unfit_map x) k = λ e q. cc (k x refl)
 set_gives buffer t T T' cut_short (reports ins outs) k = λ e q. cc invalid_scripts
 set_gives buffer t T T' (whole xs) (reports ins outs) k =
-    pick_by (Gives (λ e. set_out_def (S.Refused e) T')) (settable t && right_for outs buffer xs) _ _
-    (λ w. pick_by (Gives (λ e. set_out_def (S.Refused e) T')) (leb (script_entry * length outs) (length T)) _ _ (λ x e q. cc) (λ x e q. cc no_room))
+    pick_by (Gives (λ e. set_out_def (Err e) T')) (settable t && right_for outs buffer xs) _ _
+    (λ w. pick_by (Gives (λ e. set_out_def (Err e) T')) (leb (script_entry * length outs) (length T)) _ _ (λ x e q. cc) (λ x e q. cc no_room))
     (λ w e q. cc invalid_scripts)
 
 -- what decides a lock is no refusal
-height_gives : (a : Asked) → Gives W.Refused (height_lock a)
+height_gives : (a : Asked) → Gives Err (height_lock a)
 unfolding height_lock
-height_gives a = pick_by (Gives W.Refused) (ltb a.number threshold) _ _ (λ t e q. cc) (λ t e q. cc)
+height_gives a = pick_by (Gives Err) (ltb a.number threshold) _ _ (λ t e q. cc) (λ t e q. cc)
 
-time_gives : (a : Asked) → Gives W.Refused (time_lock a)
+time_gives : (a : Asked) → Gives Err (time_lock a)
 unfolding time_lock
-time_gives a = pick_by (Gives W.Refused) (leb threshold a.number) _ _ (λ t e q. cc) (λ t e q. cc)
+time_gives a = pick_by (Gives Err) (leb threshold a.number) _ _ (λ t e q. cc) (λ t e q. cc)
 
-decide_by_gives : (m : Maybe) (hs ts : List Asked) → Gives W.Refused (decide_by m hs ts)
+decide_by_gives : (m : Maybe) (hs ts : List Asked) → Gives Err (decide_by m hs ts)
 unfolding decide_by
 decide_by_gives m [] [] = λ e q. cc
 decide_by_gives m (h ∷ hs) [] = height_gives (greatest h hs)
 decide_by_gives m [] (t ∷ ts) = time_gives (greatest t ts)
 decide_by_gives m (h ∷ hs) (t ∷ ts) = λ e q. cc
 
-formed_gives : (ms : List ℕ) (l : Lock) → Gives W.Refused l → Gives W.Refused (well_formed ms l)
+formed_gives : (ms : List ℕ) (l : Decided) → Gives Err l → Gives Err (well_formed ms l)
 unfolding well_formed
 formed_gives [] l k = k
 formed_gives (m ∷ ms) l k = λ e q. cc
 
-decide_gives : (m : Maybe) (ins : List In) → Gives W.Refused (decide m ins)
+decide_gives : (m : Maybe) (ins : List In) → Gives Err (decide m ins)
 unfolding decide
 decide_gives m ins = formed_gives (misfits 0 ins) _ (decide_by_gives m (heights 0 ins) (times 0 ins))
 
-lock_gives : (l : Lock) → Gives W.Refused l → Gives unlocked (lock_of l)
+lock_gives : (l : Decided) → Gives Err l → Gives unlocked (lock_of l)
 unfolding lock_of
-lock_gives (W.Refused x) k = λ e q. cc (k x refl)
-lock_gives (W.Height n i) k = λ e q. cc
-lock_gives (W.Time n i) k = λ e q. cc
-lock_gives (W.Fallback n) k = λ e q. cc
-lock_gives (W.BothKinds h t) k = λ e q. cc bad_value
-lock_gives (W.HeightTooGreat n i) k = λ e q. cc bad_value
-lock_gives (W.TimeTooSmall n i) k = λ e q. cc bad_value
-lock_gives (W.Malformed i) k = λ e q. cc bad_value
+lock_gives (Err x) k = λ e q. cc (k x refl)
+lock_gives (Ok (W.Height n i)) k = λ e q. cc
+lock_gives (Ok (W.Time n i)) k = λ e q. cc
+lock_gives (Ok (W.Fallback n)) k = λ e q. cc
+lock_gives (Ok (W.BothKinds h t)) k = λ e q. cc bad_value
+lock_gives (Ok (W.HeightTooGreat n i)) k = λ e q. cc bad_value
+lock_gives (Ok (W.TimeTooSmall n i)) k = λ e q. cc bad_value
+lock_gives (Ok (W.Malformed i)) k = λ e q. cc bad_value
 
 -- the transaction
 ahead_gives : (b : List ℕ) (t : Tx) → Gives refuses t → Gives refuses (ahead b t)
@@ -339,28 +332,28 @@ reported_tx_gives s t T (reports ins outs) k =
     (λ w. tx_by_gives s ins outs (set_so_far t T) _ (lock_gives _ (decide_gives s.fallback_locktime ins)))
     (λ w e q. cc bad_index)
 
-written_gives : (t : State) (B B' : List ℕ) (x : Tx) → Gives refuses x → Gives (λ e. tx_out (X.Refused e) B') (written t B x)
+written_gives : (t : State) (B B' : List ℕ) (x : Tx) → Gives refuses x → Gives (λ e. tx_out (Err e) B') (written t B x)
 unfolding written
 written_gives t B B' (refuses x) k = λ e q. cc (k x refl)
-written_gives t B B' (writes x) k = pick_by (Gives (λ e. tx_out (X.Refused e) B')) (leb (length x) (length B)) _ _ (λ w e q. cc) (λ w e q. cc no_room)
+written_gives t B B' (writes x) k = pick_by (Gives (λ e. tx_out (Err e) B')) (leb (length x) (length B)) _ _ (λ w e q. cc) (λ w e q. cc no_room)
 
-lock_by_gives : (s : Psbt) (r : Reported) → Gives unfit_map r → Gives W.Refused (lock_by s r)
+lock_by_gives : (s : Psbt) (r : Reported) → Gives unfit_map r → Gives Err (lock_by s r)
 unfolding lock_by
 lock_by_gives s (unfit_map x) k = λ e q. cc (k x refl)
 lock_by_gives s (reports ins outs) k = decide_gives s.fallback_locktime ins
 
 -- the calls on all reported maps
-script_place_gives : (t : State) (i : ℕ) (o : Looked) → Gives Refused o → Gives O.Refused (script_place t i o)
+script_place_gives : (t : State) (i : ℕ) (o : Looked) → Gives Err o → Gives Err (script_place t i o)
 unfolding script_place
-script_place_gives t i (Refused x) g = λ e q. cc (g x refl)
-script_place_gives t i Absent g = pick_by (Gives O.Refused) t.set _ _ (λ w e q. cc) (λ w e q. cc)
-script_place_gives t i (At s n) g = λ e q. cc
+script_place_gives t i (Err x) g = λ e q. cc (g x refl)
+script_place_gives t i (Ok None) g = pick_by (Gives Err) t.set _ _ (λ w e q. cc) (λ w e q. cc)
+script_place_gives t i (Ok (Some p)) g = λ e q. cc
 
-held_script_gives : (f : List ℕ) (t : State) (T : List ℕ) (i : ℕ) (h : Held) → Gives no h → Gives O.Refused (output_script_def f t T i h)
+held_script_gives : (f : List ℕ) (t : State) (T : List ℕ) (i : ℕ) (h : Held) → Gives no h → Gives Err (output_script_def f t T i h)
 unfolding output_script_def
 held_script_gives f t T i (no x) g = λ e q. cc (g x refl)
 held_script_gives f t T i (holds es) g =
-    pick_by (Gives O.Refused) (table_fits t (out_of (map (shown f) es) ∷ []) (drop (i * script_entry) T)) _ _
+    pick_by (Gives Err) (table_fits t (out_of (map (shown f) es) ∷ []) (drop (i * script_entry) T)) _ _
     (λ w. script_place_gives t i (place f (key_of 0x04 []) es) (place_gives f (key_of 0x04 []) es)) (λ w e q. cc bad_index)
 
 module _ (f P M : List ℕ) (s : Psbt) where
@@ -369,17 +362,17 @@ module _ (f P M : List ℕ) (s : Psbt) where
   reported_gives = reported_by_gives s.inputs _ (gather_gives (view f P M s) (view_gives f P M s) (maps_reported s) 0)
 
   pub scripts_give : (a : Given) (buffer : List ℕ) (t : State) (T T' : List ℕ)
-      → Gives (λ e. set_out_def (S.Refused e) T') (set_scripts (view f P M s) s a buffer t T)
+      → Gives (λ e. set_out_def (Err e) T') (set_scripts (view f P M s) s a buffer t T)
   unfolding set_scripts
   scripts_give a buffer t T T' = set_gives buffer t T T' a (reported (view f P M s) s) reported_gives
 
-  pub tx_gives : (t : State) (T B B' : List ℕ) → Gives (λ e. tx_out (X.Refused e) B') (unsigned_tx_def (view f P M s) s t T B)
+  pub tx_gives : (t : State) (T B B' : List ℕ) → Gives (λ e. tx_out (Err e) B') (unsigned_tx_def (view f P M s) s t T B)
   unfolding unsigned_tx_def
   tx_gives t T B B' = written_gives t B B' _ (reported_tx_gives s t T (reported (view f P M s) s) reported_gives)
 
-  pub lock_decided_gives : Gives W.Refused (lock_decided (view f P M s) s)
+  pub lock_decided_gives : Gives Err (lock_decided (view f P M s) s)
   unfolding lock_decided
   lock_decided_gives = lock_by_gives s (reported (view f P M s) s) reported_gives
 
-  pub output_script_gives : (t : State) (T : List ℕ) (i : ℕ) → Gives O.Refused (output_script_def f t T i (held_output f P M s i))
+  pub output_script_gives : (t : State) (T : List ℕ) (i : ℕ) → Gives Err (output_script_def f t T i (held_output f P M s i))
   output_script_gives t T i = held_script_gives f t T i (held_output f P M s i) (output_gives f P M s i)

@@ -14,14 +14,16 @@ use Rattle.format.specs.Tables.{holds, held}
 use Rattle.format.specs.Lookups.{listing, before, list}
 use Rattle.format.specs.declared.Psbt.{Psbt}
 use Rattle.format.specs.declared.PairEntry.{PairEntry}
-use Rattle.format.specs.declared.Listing.TheVariants.{Pairs}
-use Rattle.format.specs.declared.Order.TheVariants.{Below}
+use Rattle.format.specs.declared.Listed.{Listed}
+use Rattle.format.specs.Answers.{pairs_at}
+use Rattle.std.specs.declared.cmp.Ordering.TheVariants.{Less}
+use Rattle.std.specs.Prelude.{Ok}
 use Rattle.claims_reading.specs.Fine.{Rises}
 use Rattle.claims_reading.proofs.Prefixes.{begins, listed, beneath, listed_is}
 use Rattle.claims_reading.proofs.Shown.{held_shows}
 
 -- a key that stands behind another has type t exactly if it begins with the bare key of t
-type_begins : (t : ℕ) (last key : List ℕ) → order last key ≡ Below → eqb (type_of key) t ≡ begins (key_of t []) key
+type_begins : (t : ℕ) (last key : List ℕ) → order last key ≡ Less → eqb (type_of key) t ≡ begins (key_of t []) key
 unfolding type_of begins key_of order
 type_begins t [] [] h = let z : ◌≡◌ {A = ℕ} 0 1 = cc in absurd (omega arith)
 type_begins t (y ∷ last) [] h = let z : ◌≡◌ {A = ℕ} 0 1 = cc in absurd (omega arith)
@@ -39,10 +41,11 @@ unfolding before beneath
 listing_is t last ps r = rw (listing_begins t last ps r) (listed_is (key_of t []) last ps r)
 
 -- so in any tables a listing answers the place and the count of the pairs of its type
-pub list_is : (f P M : List ℕ) (s : Psbt) (m t i n : ℕ) (es : List PairEntry) → held f P M s m ≡ holds es → list f t (holds es) ≡ Pairs i n
+pub list_is : (f P M : List ℕ) (s : Psbt) (m t i n : ℕ) (es : List PairEntry) → held f P M s m ≡ holds es → list f t (holds es) ≡ Ok (pairs_at i n)
     → take n (drop i (map (shown f) es)) ≡ listing t (map (shown f) es)
 unfolding list
 list_is f P M s m t i n es h q =
-    let a : before t (map (shown f) es) ≡ i = cc in
-    let b : length (listing t (map (shown f) es)) ≡ n = cc in
+    let e : pairs_at (before t (map (shown f) es)) (length (listing t (map (shown f) es))) ≡ pairs_at i n = cc in
+    let a : before t (map (shown f) es) ≡ i = ap (λ (l : Listed). l.first) e in
+    let b : length (listing t (map (shown f) es)) ≡ n = ap (λ (l : Listed). l.count) e in
     rw (← a, ← b) (listing_is t [] (map (shown f) es) (held_shows f P M s m es h).1)

@@ -17,12 +17,10 @@ use Rattle.format.specs.Reading.{map_events, maps_events, unless, two, lastly, g
 use Rattle.format.specs.declared.PsbtError.{PsbtError}
 use Rattle.format.specs.declared.PsbtError.TheVariants.{UnexpectedEof, InvalidCompactSize, DuplicateKey, UnsortedKeys, BadValue}
 use Rattle.format.specs.declared.PsbtError.TheVariants.{MissingCounts, NotAllowed, MissingOutputScript, InvalidSilentPayment}
-use Rattle.format.specs.declared.Size.{Size}
-use Rattle.format.specs.declared.Size.TheVariants.{Bad, Read}
-use Rattle.format.specs.declared.Order.{Order}
-use Rattle.format.specs.declared.Order.TheVariants.{Below, Same, Above}
-use Rattle.format.specs.declared.Ruled.{Ruled}
-use Rattle.format.specs.declared.Ruled.TheVariants.{Passed, Refused}
+use Rattle.std.specs.declared.cmp.Ordering.{Ordering}
+use Rattle.format.specs.Answers.{Ruled, Size}
+use Rattle.std.specs.declared.cmp.Ordering.TheVariants.{Less, Equal, Greater}
+use Rattle.std.specs.Prelude.{Ok, Err}
 use Rattle.format.specs.declared.SizedType.{SizedType}
 use Rattle.format.proofs.Tests.{pick_by, and_left, never_true}
 use Rattle.format.proofs.Compact.{RefusedBy, size_refused, count_refused}
@@ -34,8 +32,8 @@ Set = PsbtError → Type 0
 
 -- a rule, an item, a map whose refusal is one of a set
 abbrev pub RuledOf : Set → Ruled → Type 0
-RuledOf Q Passed = Unit {0}
-RuledOf Q (Refused e) = Q e
+RuledOf Q (Ok u) = Unit {0}
+RuledOf Q (Err e) = Q e
 
 abbrev ItemOf : Set → Item → Type 0
 ItemOf Q (stop e) = Q e
@@ -75,18 +73,18 @@ pub record Early (Q : Set) : Type 0 where
 module _ (Q : Set) where
   then_of : (a b : Ruled) → RuledOf Q a → RuledOf Q b → RuledOf Q (and_then a b)
   unfolding and_then
-  then_of Passed b h i = i
-  then_of (Refused e) b h i = h
+  then_of (Ok u) b h i = i
+  then_of (Err e) b h i = h
 
   count_of : (y : Size) → RefusedBy Q y → RuledOf Q (count_rule y)
   unfolding count_rule
-  count_of (Read n u) h = tt
-  count_of (Bad e) h = h
+  count_of (Ok r) h = tt
+  count_of (Err e) h = h
 
   ruled_of : (p : Pair) (r : List ℕ) (y : Ruled) → RuledOf Q y → ItemOf Q (ruled p r y)
   unfolding ruled
-  ruled_of p r Passed h = tt
-  ruled_of p r (Refused e) h = h
+  ruled_of p r (Ok u) h = tt
+  ruled_of p r (Err e) h = h
 
   front_of : (p : Pair) (x : Mapped) → MappedOf Q x → MappedOf Q (front p x)
   unfolding front
@@ -111,8 +109,8 @@ module _ (Q : Set) where
 
   unless_orderly : (y : Ruled) (t : Reading) → RuledOf Q y → OrderlyBy Q 0 t → OrderlyBy Q 0 (unless y t)
   unfolding unless
-  unless_orderly Passed t h i = i
-  unless_orderly (Refused e) t h i = h
+  unless_orderly (Ok u) t h i = i
+  unless_orderly (Err e) t h i = h
 
 -- the global map's own rule gives but two
 pub global_of : (Q : Set) → Q MissingCounts → Q NotAllowed → (g : List Pair) → RuledOf Q (global_rule g)
@@ -159,22 +157,22 @@ module _ (Q : Set) (has : Later Q) where
   module _ (ρ : FieldRule) (of : (key v : List ℕ) → RuledOf Q (ρ key v)) where
     valued_of : (a key r : List ℕ) (y : Size) → RefusedBy Q y → ItemOf Q (valued ρ a key r y)
     unfolding valued
-    valued_of a key r (Bad e) h = h
-    valued_of a key r (Read n u) h =
-        pick_by (ItemOf Q) (leb n (length (drop u r))) _ _ (λ q. ruled_of Q _ _ _ (of key (take n (drop u r)))) (λ q. has.eof)
+    valued_of a key r (Err e) h = h
+    valued_of a key r (Ok r') h =
+        pick_by (ItemOf Q) (leb r'.value (length (drop r'.used r))) _ _ (λ q. ruled_of Q _ _ _ (of key (take r'.value (drop r'.used r)))) (λ q. has.eof)
 
-    risen_of : (a key r : List ℕ) (o : Order) → ItemOf Q (risen ρ a key r o)
+    risen_of : (a key r : List ℕ) (o : Ordering) → ItemOf Q (risen ρ a key r o)
     unfolding risen
-    risen_of a key r Below = valued_of a key r (size r) (size_of r)
-    risen_of a key r Same = has.twice
-    risen_of a key r Above = has.falls
+    risen_of a key r Less = valued_of a key r (size r) (size_of r)
+    risen_of a key r Equal = has.twice
+    risen_of a key r Greater = has.falls
 
     by_size : (last s : List ℕ) (y : Size) → RefusedBy Q y → ItemOf Q (item_by_def ρ last s y)
     unfolding item_by_def keyed
-    by_size last s (Bad e) h = h
-    by_size last s (Read n u) h =
-        pick_by (ItemOf Q) (eqb n 0) _ _ (λ q. tt)
-        (λ q. pick_by (ItemOf Q) (leb n (length (drop u s))) _ _ (λ w. risen_of _ _ _ (order last (take n (drop u s)))) (λ w. has.eof))
+    by_size last s (Err e) h = h
+    by_size last s (Ok r) h =
+        pick_by (ItemOf Q) (eqb r.value 0) _ _ (λ q. tt)
+        (λ q. pick_by (ItemOf Q) (leb r.value (length (drop r.used s))) _ _ (λ w. risen_of _ _ _ (order last (take r.value (drop r.used s)))) (λ w. has.eof))
 
     item_of : (last s : List ℕ) → ItemOf Q (item ρ last s)
     unfolding item

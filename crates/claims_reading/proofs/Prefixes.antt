@@ -1,4 +1,5 @@
 -- Keys that begin with the same bytes stand together among rising keys, right behind those below these bytes.
+use Rattle.std.specs.Ordering.{is_lt}
 use mathlib.Core.Path.{◌≡◌, refl, sym, ◌∙◌, ap}
 use mathlib.Core.List.{List, [], ◌∷◌}
 use mathlib.Core.Bool.{Bool, true, false, ◌&&◌}
@@ -8,9 +9,9 @@ use borrow.Author.Tests.{lt-ltb, le-ltb, eq-eqb, eqb-true}
 use lib.Dec.{eqb}
 use lib.ListN.{length, take, drop}
 use Rattle.format.specs.Tests.{keep_if, only}
-use Rattle.format.specs.Keys.{order, is_below_def, below}
+use Rattle.format.specs.Keys.{order, below}
 use Rattle.format.specs.Content.{Pair}
-use Rattle.format.specs.declared.Order.TheVariants.{Below}
+use Rattle.std.specs.declared.cmp.Ordering.TheVariants.{Less}
 use Rattle.format.proofs.Tests.{never_true, and_left, and_right, clash, no_by}
 use Rattle.format.proofs.Keys.{rises_by, order_trans, below_is}
 use Rattle.claims_reading.specs.Fine.{Rises}
@@ -23,7 +24,7 @@ begins (x ∷ q) (y ∷ key) = eqb y x && begins q key
 
 -- a key that begins with q isn't below it
 begins_above : (q a : List ℕ) → begins q a ≡ true → below a q ≡ false
-unfolding begins below is_below_def order
+unfolding begins below order
 begins_above [] [] h = refl
 begins_above [] (y ∷ a) h = refl
 begins_above (x ∷ q) [] h = never_true h
@@ -32,8 +33,8 @@ begins_above (x ∷ q) (y ∷ a) h =
     rw (le-ltb y x (omega arith), le-ltb x y (omega arith)) (begins_above q a (and_right (eqb y x) (begins q a) h))
 
 -- between q and a key that begins with q all keys do
-between : (q a b : List ℕ) → below a q ≡ false → order a b ≡ Below → begins q b ≡ true → begins q a ≡ true
-unfolding begins below is_below_def order
+between : (q a b : List ℕ) → below a q ≡ false → order a b ≡ Less → begins q b ≡ true → begins q a ≡ true
+unfolding begins below order
 between [] a b n o h = refl
 between (x ∷ q) [] b n o h = never_true (sym n)
 between (x ∷ q) (y ∷ a) [] n o h = never_true h
@@ -45,10 +46,10 @@ between (x ∷ q) (y ∷ a) (z ∷ b) n o h =
     (between q a b (rw (le-ltb y x (omega arith), le-ltb x y (omega arith)) at n) p (and_right (eqb z x) (begins q b) h)))
 
 -- behind a key that isn't below q none is
-still_above : (q a b : List ℕ) → below a q ≡ false → order a b ≡ Below → below b q ≡ false
-unfolding below is_below_def
+still_above : (q a b : List ℕ) → below a q ≡ false → order a b ≡ Less → below b q ≡ false
+unfolding below
 still_above q a b n o =
-    no_by (is_below_def (order b q)) (λ e. clash (is_below_def (order a q)) (ap is_below_def (order_trans a b q o (below_is b q e))) n)
+    no_by (is_lt (order b q)) (λ e. clash (is_lt (order a q)) (ap is_lt (order_trans a b q o (below_is b q e))) n)
 
 module _ (q : List ℕ) where
   -- those that begin with q

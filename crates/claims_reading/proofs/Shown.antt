@@ -9,7 +9,7 @@ use lib.Dec.{leb, ltb}
 use lib.ListN.{length, take, drop, length-append, length-drop}
 use lib.Seq.{take-append_seam, drop-append_seam, take_at, drop_at, drop-drop}
 use Rattle.format.specs.Tests.{every}
-use Rattle.format.specs.Keys.{below, is_below_def}
+use Rattle.format.specs.Keys.{below}
 use Rattle.format.specs.Content.{Pair, Map, Content, maps_of, magic, pair_bytes, pairs_bytes, map_bytes, maps_bytes, bytes, psbt_of}
 use Rattle.format.specs.Reading.{FieldRule, two, accepted, reading}
 use Rattle.format.specs.Entries.{pair_entry_words, map_entry_words, pair_entries, map_entries, entry_of, width, key_in_def, value_in_def, shown}
@@ -105,7 +105,7 @@ shown_here f at (p ∷ ps) x h =
 
 fit_here : (f last : List ℕ) (at : ℕ) (ps : List Pair) (x : List ℕ)
     → drop at f ≡ pairs_bytes ps x → All Framed ps → Rises last ps → fit f last (entries at ps) ≡ true
-unfolding fit entries pairs_bytes below is_below_def
+unfolding fit entries pairs_bytes below
 fit_here f last at [] x h F R = refl
 fit_here f last at (p ∷ ps) x h F R =
     rw (

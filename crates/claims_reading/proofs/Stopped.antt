@@ -21,9 +21,8 @@ use Rattle.format.specs.declared.PsbtError.TheVariants.{InvalidMagic, TooLong}
 use Rattle.format.specs.declared.PairEntry.{PairEntry}
 use Rattle.format.specs.declared.MapEntry.{MapEntry}
 use Rattle.format.specs.declared.Parsed.{Parsed}
-use Rattle.format.specs.declared.Ruled.{Ruled}
-use Rattle.format.specs.declared.Ruled.TheVariants.{Passed}
-use Rattle.format.specs.declared.Ruled.TheVariants as R
+use Rattle.format.specs.Answers.{Ruled}
+use Rattle.std.specs.Prelude.{Ok, Err}
 use Rattle.format.proofs.Tests.{pick_by}
 use Rattle.claims_reading.specs.Rooms.{pairs#, begun#, ended#, Roomy}
 use Rattle.claims_reading.specs.Shown.{bare, view_by, behind, entries, maps_entries, runs, joined, onto}
@@ -189,8 +188,8 @@ global_shown_lem f P M P' M' x n e r q = ap (View0 f) (sym e) ∙ events_show f 
 
 -- a refusal behind the global map is that of its own rule; where that passes, it is one that is given later
 abbrev pub GlobalRefuses : Set → PsbtError → Ruled → Type 0
-GlobalRefuses Q e Passed = Q e
-GlobalRefuses Q e (R.Refused x) = x ≡ e
+GlobalRefuses Q e (Ok u) = Q e
+GlobalRefuses Q e (Err x) = x ≡ e
 
 module _ (Q : Set) (has : Later Q) (f : List ℕ) (e : PsbtError) where
   abbrev Behind : Reading → Type 0
@@ -198,8 +197,8 @@ module _ (Q : Set) (has : Later Q) (f : List ℕ) (e : PsbtError) where
 
   rule_refuses : (y : Ruled) (t : Reading) → OrderlyBy Q 0 t → outcome (unless y t) ≡ refused e → GlobalRefuses Q e y
   unfolding unless outcome
-  rule_refuses Passed t h q = refused_of Q t 0 e h q
-  rule_refuses (R.Refused x) t h q = cc
+  rule_refuses (Ok u) t h q = refused_of Q t 0 e h q
+  rule_refuses (Err x) t h q = cc
 
   mapped_behind : (o : Mapped) → Behind (begins (map_events (global_then two) o))
   unfolding map_events ended# global_pairs global_then outcome

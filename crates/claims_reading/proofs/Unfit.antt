@@ -18,12 +18,9 @@ use Rattle.format.specs.declared.Psbt.{Psbt}
 use Rattle.format.specs.declared.PairEntry.{PairEntry}
 use Rattle.format.specs.declared.MapEntry.{MapEntry}
 use Rattle.format.specs.declared.State.{State}
-use Rattle.format.specs.declared.Lock.{Lock}
+use Rattle.format.specs.Answers.{Decided, ScriptsSet, UnsignedTx}
+use Rattle.std.specs.Prelude.{Err}
 use Rattle.format.specs.declared.Lock.TheVariants as L
-use Rattle.format.specs.declared.ScriptsSet.{ScriptsSet}
-use Rattle.format.specs.declared.ScriptsSet.TheVariants as S
-use Rattle.format.specs.declared.UnsignedTx.{UnsignedTx}
-use Rattle.format.specs.declared.UnsignedTx.TheVariants as X
 use Rattle.format.proofs.Tests.{pick_by, pick_yes}
 use Rattle.format.proofs.Told.{lock_one, set_out_one, tx_out_one}
 
@@ -110,24 +107,24 @@ module _ (f P M : List ℕ) (s : Psbt) where
         q ∙ ap unfit_map (unfit_found r.0 q).0
 
     -- any outcome that meets the promise of `lock_decided` is 24
-    pub lock_unfit : (r : Lock) → told_lock r ≡ told_lock (lock_decided (view f P M s) s) → r ≡ L.Refused BadIndex
+    pub lock_unfit : (r : Decided) → told_lock r ≡ told_lock (lock_decided (view f P M s) s) → r ≡ Err BadIndex
     unfolding lock_decided lock_by
     lock_unfit r q = lock_one r (lock_decided (view f P M s) s) q ∙ ap (lock_by s) unfit_reported
 
     -- any outcome that meets the promise of `unsigned_tx` is 24, and the buffer is as it was
     pub tx_unfit : (t : State) (T B : List ℕ) (r : UnsignedTx) (B' : List ℕ) → told_left (told_tx r) B' ≡ told_tx_out (unsigned_tx_def (view f P M s) s t T B)
-        → (r ≡ X.Refused BadIndex) × (B' ≡ B)
+        → (r ≡ Err BadIndex) × (B' ≡ B)
     unfolding told_tx_out unsigned_tx_def tx_reported written
     tx_unfit t T B r B' q =
-        let o : tx_out r B' ≡ tx_out (X.Refused BadIndex) B =
+        let o : tx_out r B' ≡ tx_out (Err BadIndex) B =
         tx_out_one (tx_out r B') (unsigned_tx_def (view f P M s) s t T B) q ∙ ap (λ (x : Reported). written t B (tx_reported s t T x)) unfit_reported in
         ((cc), (cc))
 
     -- any outcome that meets a setter's promise is 24, and the script table is as it was
     pub set_unfit : (g : Given) (buffer : List ℕ) (t : State) (T : List ℕ) (r : ScriptsSet) (T' : List ℕ)
-        → told_left (told_set r) T' ≡ told_set_out (set_scripts (view f P M s) s g buffer t T) → (r ≡ S.Refused BadIndex) × (T' ≡ T)
+        → told_left (told_set r) T' ≡ told_set_out (set_scripts (view f P M s) s g buffer t T) → (r ≡ Err BadIndex) × (T' ≡ T)
     unfolding told_set_out set_scripts set_by
     set_unfit g buffer t T r T' q =
-        let o : set_out_def r T' ≡ set_out_def (S.Refused BadIndex) T =
+        let o : set_out_def r T' ≡ set_out_def (Err BadIndex) T =
         set_out_one (set_out_def r T') (set_scripts (view f P M s) s g buffer t T) q ∙ ap (set_by buffer t T g) unfit_reported in
         ((cc), (cc))

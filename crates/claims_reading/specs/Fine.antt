@@ -3,8 +3,8 @@ use Rattle.std.specs.Prelude.{ℕ, ◌≤◌, ◌<◌, ◌≡◌, List, [], ◌�
 use Rattle.format.specs.Keys.{order}
 use Rattle.format.specs.Content.{Pair, Map, Content, bytes}
 use Rattle.format.specs.Reading.{limit, FieldRule, Version, two}
-use Rattle.format.specs.declared.Order.TheVariants.{Below}
-use Rattle.format.specs.declared.Ruled.TheVariants.{Passed}
+use Rattle.format.specs.Answers.{passed}
+use Rattle.std.specs.declared.cmp.Ordering.TheVariants.{Less}
 use Rattle.format.proofs.Numbers.{All}
 use Rattle.format.proofs.Compact.{Spells}
 
@@ -17,7 +17,7 @@ pub record Framed (p : Pair) : Type 0 where
 -- the keys of pairs behind the key `last` strictly rise
 abbrev pub Rises : List ℕ → List Pair → Type 0
 Rises last [] = Unit {0}
-Rises last (p ∷ ps) = (order last p.key ≡ Below) × Rises p.key ps
+Rises last (p ∷ ps) = (order last p.key ≡ Less) × Rises p.key ps
 
 -- the keys of each map strictly rise
 pub record RisesFile (c : Content) : Type 0 where
@@ -27,7 +27,7 @@ pub record RisesFile (c : Content) : Type 0 where
 
 -- a pair keeps a field rule
 abbrev pub Keeps : FieldRule → Pair → Type 0
-Keeps ρ p = ρ p.key p.value ≡ Passed
+Keeps ρ p = ρ p.key p.value ≡ passed
 
 -- pairs behind the key `last` in a map of field rule ρ: framed, rising, each keeping its rule
 pub record Fine (ρ : FieldRule) (last : List ℕ) (ps : List Pair) : Type 0 where
@@ -45,10 +45,10 @@ pub record FineOf (v : Version) (c : Content) : Type 0 where
   pub global : FineMap v.global c.global
   pub ins : All (FineMap v.input) c.ins
   pub outs : All (FineMap v.output) c.outs
-  pub rule : v.early c.global.pairs ≡ Passed
+  pub rule : v.early c.global.pairs ≡ passed
   pub ins# : length c.ins ≡ v.inputs c.global.pairs
   pub outs# : length c.outs ≡ v.outputs c.global.pairs
-  pub late : v.late c.global.pairs c.outs ≡ Passed
+  pub late : v.late c.global.pairs c.outs ≡ passed
   pub short : length (bytes c) ≤ limit
 
 -- a file of version 2

@@ -1,15 +1,14 @@
 -- What a lookup by place finds in the file.
-use Rattle.std.specs.Prelude.{ℕ, List, take, drop}
+use Rattle.std.specs.Prelude.{ℕ, List, take, drop, Ok, Err, Some, None}
 use Rattle.format.specs.Content.{Found, absent, found, find}
 use Rattle.format.specs.Tables.{View, hides, shows}
-use Rattle.format.specs.declared.Looked.{Looked}
-use Rattle.format.specs.declared.Looked.TheVariants.{Refused, Absent, At}
+use Rattle.format.specs.Answers.{Looked}
 
 -- the value at the place that a lookup answers
 unfoldable pub found_at : List ℕ → Looked → Found
-found_at f (Refused e) = absent
-found_at f Absent = absent
-found_at f (At s n) = found (take n (drop s f))
+found_at f (Err e) = absent
+found_at f (Ok None) = absent
+found_at f (Ok (Some p)) = found (take p.len (drop p.start f))
 
 -- the value of a key in a map that shows its pairs
 unfoldable pub find_in : List ℕ → View → Found

@@ -14,7 +14,7 @@ use Rattle.format.specs.Tables.{held_input, view}
 use Rattle.format.specs.Fields.{number_field, sequence, required_height_locktime, required_time_locktime}
 use Rattle.format.specs.Transaction.{unsigned_tx_def, lock_decided}
 use Rattle.format.specs.declared.Psbt.{Psbt}
-use Rattle.format.specs.declared.Numbered.{Numbered}
+use Rattle.format.specs.Answers.{Numbered}
 use Rattle.format.proofs.Tests.{pick_yes}
 use Rattle.claims_reading.specs.Shown.{view_by, pair_table, map_table, Room}
 use Rattle.claims_reading.proofs.Files.{reading_is}

@@ -16,9 +16,8 @@ use Rattle.format.specs.Tables.{View}
 use Rattle.format.specs.Parse.{ParseOut, out, cut, parsed}
 use Rattle.format.specs.declared.PsbtError.{PsbtError}
 use Rattle.format.specs.declared.PsbtError.TheVariants.{InvalidMagic, MissingCounts, NotAllowed, TooLong}
-use Rattle.format.specs.declared.Ruled.{Ruled}
-use Rattle.format.specs.declared.Ruled.TheVariants.{Passed}
-use Rattle.format.specs.declared.Ruled.TheVariants as R
+use Rattle.format.specs.Answers.{Ruled}
+use Rattle.std.specs.Prelude.{Ok, Err}
 use Rattle.format.specs.declared.MapEntry.{MapEntry}
 use Rattle.format.specs.declared.Parsed.TheVariants.{Accepted, Refused}
 use Rattle.format.proofs.Tests.{pick_yes, pick_no}
@@ -136,8 +135,8 @@ past_end = record { eof = refl; compact = refl; twice = refl; falls = refl; valu
 at_end : (e : PsbtError) (x : Place) (y : Ruled) → GlobalRefuses PastEnd e y → RuledOf AtEnd y
     → pick (one_of e MissingCounts NotAllowed) GlobalEnd x ≡ end_by y x
 unfolding end_by
-at_end e x Passed h g = pick_no _ _ _ h
-at_end e x (R.Refused z) h g = pick_yes _ _ _ (subst AtEnd h g)
+at_end e x (Ok u) h g = pick_no _ _ _ h
+at_end e x (Err z) h g = pick_yes _ _ _ (subst AtEnd h g)
 
 module _ (f : List ℕ) (e : PsbtError) (q : reading f ≡ refused e) where
   in_map : (m : ℕ) → ended# (events f) ≡ m → in_map_def e m (passing 0 (events f)) (count_in f 0x04) (count_in f 0x05) ≡ map_in m (events f)

@@ -4,7 +4,7 @@ use Rattle.format.specs.Tests.{pick}
 use Rattle.format.specs.Content.{Map, Content, maps_of, psbt_of}
 use Rattle.format.specs.Locks.{In, in_of}
 use Rattle.format.specs.Transaction.{unsigned_tx_def, lock_decided}
-use Rattle.format.specs.declared.Lock.{Lock}
+use Rattle.format.specs.Answers.{Decided}
 use Rattle.claims_reading.specs.Shown.{view_by}
 use Rattle.claims_calls.specs.Asked.{asks_for}
 use Rattle.claims_calls.specs.Newer.{ins_of}
@@ -26,7 +26,7 @@ ins_heed i [] = Ignored
 ins_heed i (x ∷ xs) = pick (is_final (asks_for x.sequence)) (ins_heed (i + 1) xs) (By i)
 
 -- what decides the content's lock
-unfoldable pub content_lock : Content → Lock
+unfoldable pub content_lock : Content → Decided
 content_lock c = lock_decided (λ n. view_by n (maps_of c)) (psbt_of c.global.pairs)
 
 -- the head, the inputs, the verdict on the content's lock, with the transaction in the room B, and what the network makes of that lock

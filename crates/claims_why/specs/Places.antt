@@ -1,10 +1,9 @@
 -- Where the reading of a file stopped, by what happened in it: no table, no room and no refusal's number is spoken of.
-use Rattle.std.specs.Prelude.{List, ◌++◌, ℕ, zero, suc}
+use Rattle.std.specs.Prelude.{List, ◌++◌, ℕ, zero, suc, Ok, Err}
 use Rattle.format.specs.Content.{field, counted, global_rule}
 use Rattle.format.specs.Reading.{Reading, events}
 use Rattle.format.specs.declared.PsbtError.{PsbtError}
-use Rattle.format.specs.declared.Ruled.{Ruled}
-use Rattle.format.specs.declared.Ruled.TheVariants.{Passed, Refused}
+use Rattle.format.specs.Answers.{Ruled}
 use Rattle.claims_reading.specs.Rooms.{begun#, ended#}
 use Rattle.claims_reading.specs.Stopped.{global_pairs, passing}
 use Rattle.reasons.specs.Reasons.{refused_line}
@@ -14,8 +13,8 @@ use Rattle.stop_lines.specs.declared.Place.TheVariants.{Nowhere, Global, GlobalE
 
 -- at the end of the global map where its own rule refuses, else where the reading stopped behind it
 unfoldable pub end_by : Ruled → Place → Place
-end_by Passed x = x
-end_by (Refused e) x = GlobalEnd
+end_by (Ok u) x = x
+end_by (Err e) x = GlobalEnd
 
 -- by how many maps ended: the map being read, of which so many pairs passed; behind the global map, by how many inputs and outputs that counts
 unfoldable pub map_in : ℕ → Reading → Place

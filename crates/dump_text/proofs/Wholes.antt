@@ -13,7 +13,7 @@ use Rattle.format.specs.declared.PsbtError.TheVariants.{TooLong}
 use Rattle.format.specs.declared.Psbt.{Psbt}
 use Rattle.format.specs.declared.Parsed.{Parsed}
 use Rattle.format.specs.declared.Parsed.TheVariants.{Accepted, Refused}
-use Rattle.format.specs.declared.UnsignedTx.{UnsignedTx}
+use Rattle.format.specs.Answers.{UnsignedTx}
 use Rattle.format.proofs.Told.{parse_out_one, tx_out_one}
 use Rattle.rooms.specs.Limits.{longest}
 use Rattle.rooms.specs.Rooms.{pair_room, map_room, tx_room, fresh}

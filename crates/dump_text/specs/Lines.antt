@@ -1,13 +1,12 @@
 -- The lines of the dump, in ASCII. A line ends with a newline.
-use Rattle.std.specs.Prelude.{ℕ, zero, suc, ◌+◌, List, [], ◌∷◌, ◌++◌, ℤ, length, take}
+use Rattle.std.specs.Prelude.{ℕ, zero, suc, ◌+◌, List, [], ◌∷◌, ◌++◌, ℤ, length, take, Ok, Err}
 use Rattle.format.specs.Keys.{type_of, data_of}
 use Rattle.format.specs.Content.{Pair}
 use Rattle.format.specs.Refusals.{number_of}
 use Rattle.format.specs.Tables.{View, hides, shows}
 use Rattle.format.specs.declared.PsbtError.{PsbtError}
 use Rattle.format.specs.declared.Psbt.{Psbt}
-use Rattle.format.specs.declared.UnsignedTx.{UnsignedTx}
-use Rattle.format.specs.declared.UnsignedTx.TheVariants.{Refused, Written}
+use Rattle.format.specs.Answers.{UnsignedTx}
 use Rattle.text.specs.Say.{say, newline}
 use Rattle.text.specs.Spelled.{hex_byte, hex_or_dash, decimal, signed_decimal}
 
@@ -96,8 +95,8 @@ maps_text v m (suc n) = map_then m (v m) (maps_text v (m + 1) n)
 
 -- the transaction's bytes at the buffer's front, or a refusal's line
 unfoldable pub unsigned_text : UnsignedTx → List ℕ → List ℕ
-unsigned_text (Refused e) B = refused_line e
-unsigned_text (Written n t) B = hex_or_dash (take n B) ++ newline
+unsigned_text (Err e) B = refused_line e
+unsigned_text (Ok w) B = hex_or_dash (take w.len B) ++ newline
 
 -- the last line
 unfoldable pub unsigned_line : UnsignedTx → List ℕ → List ℕ

@@ -13,11 +13,10 @@ ghost use Rattle.dump_text.specs.Lines.{refused_line, version_text, counts_text,
 ghost use Rattle.dump_text.specs.Lines.{pair_text, pair_line, pairs_text, map_text, maps_text, unsigned_line};
 ghost use Rattle.dump_text.specs.Dump.{longest_dump, accepted_text, dump_in, dump};
 
-use entries::pair_entry;
-use fitness::{Fit, fit_map, is_reported};
-use format::{Looked, MapEntry, Nth, PairEntry, Parsed, Psbt, PsbtError, State, UnsignedTx};
-use lookup::{key_part, part_of, value_part};
-use rooms::{LONGEST, file_room, map_room, pair_room, read_full, tx_room, write_full};
+use entries::{map_count, pairs_of};
+use fitness::{bytes_at, fit_map, key_in, value_in};
+use format::{MapEntry, PairEntry, Parsed, Psbt, PsbtError, State, Written};
+use rooms::{LONGEST, map_room, pair_room, tx_room, write_put};
 use std::io::{self, Read, Write};
 use text::{put, put_decimal, put_hex_byte, put_hex_or_dash, put_signed};
 
@@ -75,11 +74,10 @@ fn put_map_line(out: &mut [u8], at: usize, m: u64, n: usize) -> usize
 fn put_key(out: &mut [u8], at: usize, key: &[u8]) -> usize
     ensures { spot result out.new ≡ lay (spot at out.old) (key_text key.now) }
 {
-    if key.len() == 0 {
+    let [key_type, data @ ..] = key else {
         return put(out, at, b"00 -");
-    }
-    let data = &key[1..];
-    let to = put_hex_byte(out, at, key[0]);
+    };
+    let to = put_hex_byte(out, at, *key_type);
     let to = put(out, to, b" ");
     put_hex_or_dash(out, to, data)
 }
@@ -98,9 +96,7 @@ fn put_pair(out: &mut [u8], at: usize, key: &[u8], value: &[u8]) -> usize
 fn put_entry(out: &mut [u8], at: usize, file: &[u8], e: PairEntry) -> usize
     ensures { spot result out.new ≡ lay (spot at out.old) (pair_line (shown file.now e)) }
 {
-    let key = key_part(file, Nth::Is(e));
-    let value = value_part(file, Nth::Is(e));
-    put_pair(out, at, key, value)
+    put_pair(out, at, key_in(file, e), value_in(file, e))
 }
 
 // The lines of a map's pairs.
@@ -110,13 +106,8 @@ fn put_pairs(out: &mut [u8], at: usize, file: &[u8], pairs: &[u32], m: MapEntry)
         ≡ lay (spot at out.old) (pairs_text (map (shown file.now) (entries_of pairs.now m))) }
 {
     let mut to = at;
-    let mut i = m.first;
-    let mut left = m.count;
-    while 0 < left {
-        let e = pair_entry(pairs, i);
+    for e in pairs_of(pairs, m) {
         to = put_entry(out, to, file, e);
-        i = i + 1;
-        left = left - 1;
     }
     to
 }
@@ -131,7 +122,7 @@ fn put_map(out: &mut [u8], at: usize, file: &[u8], pairs: &[u32], m: u64, e: Map
     put_pairs(out, to, file, pairs, e)
 }
 
-// The lines of all reported maps. An accepted parse leaves none that is refused.
+// The lines of all reported maps that are listed. An accepted parse lists each, and leaves none that is refused.
 fn put_maps(
     out: &mut [u8],
     at: usize,
@@ -144,31 +135,24 @@ fn put_maps(
         ≡ lay (spot at out.old) (maps_text (view file.now pairs.now maps.now psbt) 0 (maps_reported psbt)) }
 {
     let mut to = at;
-    let mut m: u64 = 0;
-    while is_reported(psbt, m) {
-        match fit_map(file, pairs, maps, psbt, m) {
-            Fit::Refused(_) => {
-                return to;
-            }
-            Fit::Is(e) => {
-                to = put_map(out, to, file, pairs, m, e);
-                m = m + 1;
-            }
-        }
+    for m in 0..map_count(maps) as u64 {
+        let Ok(e) = fit_map(file, pairs, maps, psbt, m) else {
+            return to;
+        };
+        to = put_map(out, to, file, pairs, m, e);
     }
     to
 }
 
 // The last line, by what the transaction answered and the buffer that it left.
-fn put_unsigned(out: &mut [u8], at: usize, x: UnsignedTx, tx: &[u8]) -> usize
+fn put_unsigned(out: &mut [u8], at: usize, x: Result<Written, PsbtError>, tx: &[u8]) -> usize
     ensures { spot result out.new ≡ lay (spot at out.old) (unsigned_line x tx.now) }
 {
     let to = put(out, at, b"unsigned ");
     match x {
-        UnsignedTx::Refused(e) => put_refused(out, to, e),
-        UnsignedTx::Written { len, .. } => {
-            let bytes = part_of(tx, Looked::At { start: 0, len });
-            let to = put_hex_or_dash(out, to, bytes);
+        Err(e) => put_refused(out, to, e),
+        Ok(written) => {
+            let to = put_hex_or_dash(out, to, bytes_at(tx, 0, written.len));
             put(out, to, b"\n")
         }
     }
@@ -252,9 +236,6 @@ pub fn dump_input<R: Read, W: Write>(from: &mut R, to: &mut W) -> io::Result<()>
     ensures err { OnErr result (IfSome (R.remaining from.old)
         (λ f. (n : ℕ) × Appends (W.contents to.old) (W.contents to.new) (take n (dump (take (longest + 1) f))))) }
 {
-    let mut file = file_room();
     let mut out = text_room();
-    let got = read_full(from, &mut file)?;
-    let end = put_whole(&mut out, &file[..got]);
-    write_full(to, &out[..end])
+    write_put(from, to, &mut out, put_whole)
 }

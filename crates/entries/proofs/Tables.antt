@@ -8,9 +8,9 @@ use native.Mathlib.Numerals.{towards_suc}
 use native.Mathlib.Omega.{arith}
 use borrow.Author.Tests.{lt-ltb, le-ltb, leb-true, leb-false}
 use lib.Dec.{ltb, leb}
-use lib.ListN.{length, get_or, drop, set, length-set}
+use lib.ListN.{length, drop, set}
 use lib.Seq.{drop-cons}
-use mir.Syntax.{w32, w64}
+use mir.Syntax.{w64}
 use mir.Val.{Fits}
 use Rattle.format.specs.Entries.{has_room_def, pair_entry_words, map_entry_words, put_pair, put_map, pair_entries, map_entries}
 use Rattle.format.specs.declared.PairEntry.{PairEntry}
@@ -76,10 +76,7 @@ pub map_here : (t : List ℕ) (i : ℕ) → i < map_count t → drop i (map_entr
 unfolding map_count map_at
 map_here t i h = drop-cons (map_entries t) i no_map h
 
--- reading: a word, and where an entry's words begin
-pub word_fits : (t : List ℕ) (i : ℕ) → ((j : ℕ) → Fits w32 (get_or t j 0)) → Fits w64 (get_or t i 0)
-word_fits t i h = record { fits = omega (arith, h i) }
-
+-- reading: where an entry's words begin
 pub pair_begins : (t : List ℕ) (i : ℕ) → i < pair_count t → i * 4 + 4 ≤ length t
 pair_begins t i h = omega (arith, pair_count_lem t)
 
@@ -101,20 +98,6 @@ map_read t i e h q = q ∙ map_words_lem i t h
 pub ruleset reads = (pair_begins, map_begins, pair_fits, map_fits, pair_read, map_read)
 
 -- writing: the words in order
-module _ (t : List ℕ) (i a : ℕ) where
-  pub second_in : i + 2 ≤ length t → i + 1 < length (set t i a)
-  second_in h = simp length-set (omega arith)
-
-  module _ (h : i + 4 ≤ length t) where
-    pub second_of_four : i + 1 < length (set t i a)
-    second_of_four = simp length-set (omega arith)
-
-    pub third_in : (b : ℕ) → i + 2 < length (set (set t i a) (i + 1) b)
-    third_in b = simp length-set (omega arith)
-
-    pub fourth_in : (b c : ℕ) → i + 3 < length (set (set (set t i a) (i + 1) b) (i + 2) c)
-    fourth_in b c = simp length-set (omega arith)
-
 pub pair_put : (t : List ℕ) (n : ℕ) (e : PairEntry)
     → set (set (set (set t (n * 4) e.key) (n * 4 + 1) e.klen) (n * 4 + 2) e.value) (n * 4 + 3) e.vlen ≡ put_pair t n e
 unfolding put_pair pair_entry_words
@@ -123,5 +106,3 @@ pair_put t n e = simp towards_suc
 pub map_put : (t : List ℕ) (n : ℕ) (e : MapEntry) → set (set t (n * 2) e.first) (n * 2 + 1) e.count ≡ put_map t n e
 unfolding put_map map_entry_words
 map_put t n e = simp towards_suc
-
-pub ruleset writes = (second_in, second_of_four, third_in, fourth_in, pair_put, map_put)

@@ -1,9 +1,11 @@
 // The entries of both lent tables, read and written. Nothing else knows which words an entry takes.
 #![tactic(auto)]
 
-ghost use Rattle.std.specs.Prelude.{◌≡◌, ◌+◌, ◌<◌, ◌≤◌, length};
-ghost use Rattle.format.specs.Entries.{pair_words, map_words, has_room_def, put_pair, put_map};
+ghost use Rattle.std.specs.Prelude.{◌≡◌, ◌+◌, ◌<◌, ◌≤◌, length, take, drop};
+ghost use Rattle.std.specs.Iterator.{YieldsFirst, item_count};
+ghost use Rattle.format.specs.Entries.{pair_words, map_words, has_room_def, put_pair, put_map, pair_entries};
 ghost use Rattle.entries.specs.Words.{pair_count, map_count, pair_from, map_from, pair_at, map_at, PairFits, MapFits};
+ghost use Rattle.entries.specs.Walks.{pairs_left};
 
 use format::{MapEntry, PairEntry};
 
@@ -109,4 +111,43 @@ pub fn map_entry(maps: &[u32], i: usize) -> MapEntry
     ensures { result ≡ map_at maps.now i }
 {
     map_from(maps, i * MAP_WORDS)
+}
+
+// A walk over entries of a pair table, one by one.
+#[derive(Drop)]
+pub struct Pairs<'a> {
+    words: &'a [u32],
+}
+
+impl Iterator for Pairs<'_> {
+    type Item = PairEntry;
+
+    ghost next_gives = { YieldsFirst pairs_left };
+
+    ghost remaining = { item_count pairs_left };
+
+    // The next entry.
+    fn next(&mut self) -> Option<PairEntry> {
+        let [key, klen, value, vlen, rest @ ..] = self.words else {
+            return None;
+        };
+        self.words = rest;
+        Some(PairEntry {
+            key: *key as usize,
+            klen: *klen as usize,
+            value: *value as usize,
+            vlen: *vlen as usize,
+        })
+    }
+}
+
+// The entries of the pairs that a map's entry names, in order.
+pub fn pairs_of(pairs: &[u32], m: MapEntry) -> Pairs<'_>
+    requires { m.first + m.count ≤ pair_count pairs.now }
+    ensures { pairs_left result ≡ take m.count (drop m.first (pair_entries pairs.now)) }
+{
+    let rest = &pairs[m.first * PAIR_WORDS..];
+    Pairs {
+        words: &rest[..m.count * PAIR_WORDS],
+    }
 }

@@ -21,10 +21,8 @@ use Rattle.format.specs.Told.{Told, told, maybe_value, told_with, ToldOut, told_
 use Rattle.format.specs.Refusals.{number_of}
 use Rattle.format.specs.declared.PsbtError.{PsbtError}
 use Rattle.format.specs.declared.PsbtError.TheVariants.{BadValue}
-use Rattle.format.specs.declared.Ruled.{Ruled}
-use Rattle.format.specs.declared.Ruled.TheVariants as R
-use Rattle.format.specs.declared.Maybe.{Maybe}
-use Rattle.format.specs.declared.Maybe.TheVariants.{Absent, Present}
+use Rattle.format.specs.Answers.{passed, Maybe, Ruled}
+use Rattle.std.specs.Prelude.{Err, Some, None}
 use Rattle.format.specs.declared.Psbt.{Psbt}
 use Rattle.format.specs.declared.State.{State}
 use Rattle.format.specs.declared.Parsed.{Parsed}
@@ -41,7 +39,7 @@ use Rattle.export_words.specs.Words.{state_of, Export, exported, ExportWith, lea
 use Rattle.export_words.specs.Words.{asked, asked_in_def, parse_left, parse_export, out_left, out_export}
 
 -- each value that is reported, back from its word
-number_back : (n : ℕ) → n < 2 ^ 32 → maybe_of n ≡ Present n
+number_back : (n : ℕ) → n < 2 ^ 32 → maybe_of n ≡ Some n
 unfolding maybe_of
 number_back n h =
     let d : n % 2 ^ 32 ≡ n = omega arith in
@@ -50,8 +48,8 @@ number_back n h =
 
 maybe_back : (m : Maybe) → Narrow m → maybe_of (word (maybe_value m)) ≡ m
 unfolding maybe_of word maybe_value unsigned
-maybe_back Absent h = refl
-maybe_back (Present n) h = number_back n h
+maybe_back None h = refl
+maybe_back (Some n) h = number_back n h
 
 version_back : (z : ℤ) → SFits w32 z → signed (unsigned z % 2 ^ 32) ≡ z
 unfolding signed unsigned
@@ -108,21 +106,21 @@ under_maybe absent h = tt
 under_maybe (found v) h = h
 
 -- a sized value that is accepted has its size
-has_size : (w : ℕ) (v : List ℕ) → and_then (pick (eqb (length v) w) R.Passed (R.Refused BadValue)) R.Passed ≡ R.Passed → length v ≡ w
+has_size : (w : ℕ) (v : List ℕ) → and_then (pick (eqb (length v) w) passed (Err BadValue)) passed ≡ passed → length v ≡ w
 unfolding and_then
 has_size w v =
-    pick_by (λ (x : Ruled). and_then x R.Passed ≡ R.Passed → length v ≡ w) (eqb (length v) w) _ _
+    pick_by (λ (x : Ruled). and_then x passed ≡ passed → length v ≡ w) (eqb (length v) w) _ _
     (λ q e. eqb-true (length v) w q)
     (λ q e. let z : ◌≡◌ {A = ℕ} 0 1 = cc in absurd (omega arith))
 
-find_under : (key : List ℕ) (w : ℕ) → 256 ^ w ≤ 2 ^ 32 → ((v : List ℕ) → rule GLOBAL key v ≡ R.Passed → length v ≡ w)
+find_under : (key : List ℕ) (w : ℕ) → 256 ^ w ≤ 2 ^ 32 → ((v : List ℕ) → rule GLOBAL key v ≡ passed → length v ≡ w)
     → (ps : List Pair) → All (Keeps (rule GLOBAL)) ps → All ByteValue ps → Under (find key ps)
 unfolding find
 find_under key w l s [] k b = tt
 find_under key w l s (p ∷ ps) k b =
     pick_by Under (same key p.key) _ _
     (λ q.
-    let e : length p.value ≡ w = s p.value (subst (λ (x : List ℕ). rule GLOBAL x p.value ≡ R.Passed) (sym (same_is key p.key q)) k.0) in
+    let e : length p.value ≡ w = s p.value (subst (λ (x : List ℕ). rule GLOBAL x p.value ≡ passed) (sym (same_is key p.key q)) k.0) in
     let g : le p.value < 256 ^ w = subst (λ (n : ℕ). le p.value < 256 ^ n) e (le_below p.value b.0) in
     omega arith)
     (λ q. find_under key w l s ps k.1 b.1)

@@ -1,48 +1,44 @@
 -- Laws of words in a lent slice.
-use mathlib.Core.Path.{◌≡◌, sym, ◌∙◌, ap}
-use mathlib.Core.List.{List}
-use Prim.Native.Nat.{ℕ, ◌+◌, ◌%◌, ◌≤◌, ◌<◌}
-use native.Mathlib.Omega.{arith}
+use mathlib.Core.Path.{◌≡◌, refl, ap}
+use mathlib.Core.Bool.{Bool, true, false}
+use Rattle.std.specs.Int.{from_bool}
+use mathlib.Core.List.{List, ◌++◌}
+use Prim.Native.Nat.{ℕ, ◌%◌, ◌≤◌, ◌<◌}
 use borrow.Author.Tests.{eq-eqb, ne_eqb, le-leb, lt-leb}
 use lib.Dec.{eqb}
 use lib.IntN.{ℤ}
-use lib.ListN.{length, get_or, get_or-eq_default}
-use lib.Seq.{sets-eq}
+use lib.ListN.{length, get_or, drop}
 use Rattle.format.specs.Numbers.{signed, unsigned}
 use Rattle.format.specs.Refusals.{number_of}
-use Rattle.format.specs.Told.{maybe_value}
-use Rattle.format.specs.declared.Maybe.{Maybe}
-use Rattle.format.specs.declared.Maybe.TheVariants.{Absent, Present}
-use Rattle.writer.specs.Writes.{wrote}
+use Rattle.format.specs.Told.{flag, maybe_value}
+use Rattle.format.specs.Answers.{Maybe}
+use Rattle.std.specs.Prelude.{Some, None, MatchOption}
 use Rattle.export_words.specs.Words.{word, exported, answered_with, no_value, maybe_of, psbt_in, is_report}
 
--- a word past the end is 0
-pub no_word : (R : List ℕ) (k : ℕ) → length R ≤ k → 0 ≡ get_or R k 0
-no_word R k h = sym (get_or-eq_default R 0 h)
-
-pub ruleset words = (no_word)
-
 -- a number that may be absent
-pub no_number : (w : ℕ) → w ≡ 0xffff_ffff_ffff_ffff → Absent ≡ maybe_of w
+pub no_number : (w : ℕ) → w ≡ 0xffff_ffff_ffff_ffff → None ≡ maybe_of w
 unfolding maybe_of
 no_number w h = rw (eq-eqb w no_value h)
 
-pub a_number : (w : ℕ) → (w ≡ 0xffff_ffff_ffff_ffff → ⊥) → Present (w % 0x1_0000_0000) ≡ maybe_of w
+pub a_number : (w : ℕ) → (w ≡ 0xffff_ffff_ffff_ffff → ⊥) → Some (w % 0x1_0000_0000) ≡ maybe_of w
 unfolding maybe_of
 a_number w h = rw (ne_eqb w no_value h)
 
 pub ruleset maybes = (no_number, a_number)
 
 -- and its word
-pub absent_word : (m : Maybe) → m ≡ Absent → 0xffff_ffff_ffff_ffff ≡ word (maybe_value m)
-unfolding word maybe_value
-absent_word m q = rw q
-
-pub present_word : (m : Maybe) (n : ℕ) → m ≡ Present n → n ≡ word (maybe_value m)
+pub word_is : (m : Maybe) (r : ℕ) (P : ℕ → Type 0) → MatchOption m (r ≡ 0xffff_ffff_ffff_ffff) P → ((n : ℕ) → P n → r ≡ n) → r ≡ word (maybe_value m)
 unfolding word maybe_value unsigned
-present_word m n q = rw q
+word_is None r P h k = h
+word_is (Some n) r P h k = k n h
 
-pub ruleset maybe_words = (absent_word, present_word)
+-- a yes or no as a word
+pub bit_is : (b : Bool) → from_bool b ≡ word (flag b)
+unfolding word
+bit_is true = refl
+bit_is false = refl
+
+pub ruleset bits = (bit_is)
 
 -- the slice is short; or has the words at its front
 module _ (A : List ℕ) (n : ℕ) (ws : List ℕ) where
@@ -50,15 +46,11 @@ module _ (A : List ℕ) (n : ℕ) (ws : List ℕ) where
   unfolding answered_with number_of
   too_short h = rw (lt-leb 8 (length A) h)
 
-  module _ (h : 8 ≤ length A) (l : length ws ≡ 8) where
-    pub words_fit : 0 + length ws ≤ length A
-    words_fit = omega arith
+  pub words_put : 8 ≤ length A → (B : List ℕ) → B ≡ ws → exported n (B ++ drop 8 A) ≡ answered_with A n ws
+  unfolding answered_with
+  words_put h B e = rw (le-leb 8 (length A) h) (ap (λ (l : List ℕ). exported n (l ++ drop 8 A)) e)
 
-    pub words_put : (B : List ℕ) → B ≡ wrote A 0 ws → exported n B ≡ answered_with A n ws
-    unfolding answered_with wrote
-    words_put B e = rw (le-leb 8 (length A) h) (ap (exported n) (e ∙ sets-eq ws A 0 words_fit ∙ rw l))
-
-pub ruleset puts = (too_short, words_fit, words_put)
+pub ruleset puts = (too_short, words_put)
 
 -- what a parse reported, word by word
 pub report_is : (R : List ℕ) (v a b i o : ℕ) (z : ℤ) (m n : Maybe)

@@ -1,12 +1,11 @@
 -- Answers as words in a lent slice, for callers from other languages.
-use Rattle.std.specs.Prelude.{ℕ, ◌^◌, ◌-◌, ◌%◌, Bool, not, List, [], ◌∷◌, ◌++◌, map, leb, eqb, length, take, drop, replicate, get_or}
+use Rattle.std.specs.Prelude.{ℕ, ◌^◌, ◌-◌, ◌%◌, Bool, not, List, [], ◌∷◌, ◌++◌, map, leb, eqb, length, take, drop, replicate, get_or, Option, Some, None}
 use Rattle.format.specs.Tests.{pick}
 use Rattle.format.specs.Numbers.{signed, unsigned}
 use Rattle.format.specs.Refusals.{number_of}
 use Rattle.format.specs.Told.{Value, none, int, flag, Told, told, ToldParse, told_with, ToldOut, told_left}
 use Rattle.format.specs.declared.PsbtError.TheVariants.{BadIndex, NoRoom}
-use Rattle.format.specs.declared.Maybe.{Maybe}
-use Rattle.format.specs.declared.Maybe.TheVariants.{Absent, Present}
+use Rattle.format.specs.Answers.{Maybe}
 use Rattle.format.specs.declared.Psbt.{Psbt}
 use Rattle.format.specs.declared.State.{State}
 
@@ -44,9 +43,13 @@ answered A (told n vs) = answered_with A n (words_of vs)
 unfoldable pub words_told : Told → List ℕ
 words_told (told n vs) = words_of vs
 
+-- the number of what is told
+unfoldable pub number_told : Told → ℕ
+number_told (told n vs) = n
+
 -- a number that may be absent, by its word
 unfoldable pub maybe_of : ℕ → Maybe
-maybe_of w = pick (eqb w no_value) Absent (Present (w % 2 ^ 32))
+maybe_of w = pick (eqb w no_value) None (Some (w % 2 ^ 32))
 
 -- what the words of a parse report; a word that isn't there counts as 0
 unfoldable pub psbt_in : List ℕ → Psbt
@@ -66,6 +69,10 @@ report_values = 7
 -- words are a report, those of an accepted parse: the first counts its values
 unfoldable pub is_report : List ℕ → Bool
 is_report R = eqb (get_or R 0 0) report_values
+
+-- what words report, where they are a report
+unfoldable pub report_in : List ℕ → Option Psbt
+report_in R = pick (is_report R) (Some (psbt_in R)) None
 
 -- what every call that takes a report tells where the words are none, before all else: 24
 unfoldable pub no_report : Told

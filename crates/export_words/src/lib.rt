@@ -1,16 +1,18 @@
 // Answers as words in a lent slice, and what a parse reported from its words, for callers from other languages.
 #![tactic(auto)]
 
-ghost use Rattle.format.specs.Told.{flag, maybe_value, told_looked, told_numbered, told_listing, told_nth};
+ghost use Rattle.format.specs.Told.{told, flag, maybe_value, told_looked, told_numbered, told_listing, told_nth};
 ghost use Rattle.format.specs.Told.{told_utxo, told_lock, told_script, told_set, told_tx, told_parsed};
-ghost use Rattle.std.specs.Prelude.{◌≡◌, ◌+◌, ◌≤◌, length, get_or};
+ghost use Rattle.std.specs.Prelude.{◌≡◌, get_or, IfOk, Ok, []};
+ghost use Rattle.format.specs.Refusals.{number_of};
+ghost use Rattle.export_words.specs.Puts.{Puts};
 ghost use Rattle.format.specs.declared.Parsed.TheVariants.{Accepted};
-ghost use Rattle.export_words.specs.Words.{word as Words·word, answered_with, exported, answered, maybe_of, psbt_in, is_report, no_report, state_of};
-ghost use Rattle.writer.specs.Writes.{wrote};
+ghost use Rattle.export_words.specs.Words.{answered, answered_with, exported, is_report, maybe_of, no_report, number_told, psbt_in, report_in, state_of};
+ghost use Rattle.export_words.specs.Words.{word as Words·word, words_told};
 
 use format::{
-    Listing, Lock, Looked, Maybe, Nth, Numbered, OutputScript, Parsed, Psbt, PsbtError, ScriptsSet,
-    State, UnsignedTx, Utxo,
+    Listed, Lock, PairEntry, Parsed, Part, Psbt, PsbtError, ScriptPlace, State, WitnessUtxo,
+    Written,
 };
 use wire::signed;
 use writer::bits_of;
@@ -30,20 +32,11 @@ const REPORT_VALUES: u64 = 7;
 // The word of a value that is absent.
 const NO_VALUE: u64 = u64::MAX;
 
+// The words where nothing is told.
+const NOTHING: [u64; 8] = [0, 0, 0, 0, 0, 0, 0, 0];
+
 // How many numbers 32 bits have: of a word that stands for one of them the lowest 32 bits count.
 const NUMBERS: u64 = 0x1_0000_0000;
-
-// Copies words into a slice.
-fn put_words(buf: &mut [u64], at: usize, src: &[u64])
-    requires { at + length src.now ≤ length buf.old }
-    ensures { buf.new ≡ wrote buf.old at src.now }
-{
-    let mut j: usize = 0;
-    while j < src.len() {
-        buf[at + j] = src[j];
-        j = j + 1;
-    }
-}
 
 // An answer's number and its words.
 fn put(answer: &mut [u64], number: u64, words: [u64; 8]) -> u64
@@ -52,7 +45,7 @@ fn put(answer: &mut [u64], number: u64, words: [u64; 8]) -> u64
     if answer.len() < ANSWER {
         return NO_ROOM;
     }
-    put_words(answer, 0, &words);
+    answer[..ANSWER].copy_from_slice(&words);
     number
 }
 
@@ -60,17 +53,17 @@ fn put(answer: &mut [u64], number: u64, words: [u64; 8]) -> u64
 fn word(report: &[u64], k: usize) -> u64
     ensures { result ≡ get_or report.now k 0 }
 {
-    if k < report.len() { report[k] } else { 0 }
+    report.get(k).copied().unwrap_or(0)
 }
 
 // A number that may be absent, from its word.
-fn maybe_of(w: u64) -> Maybe
+fn maybe_of(w: u64) -> Option<u32>
     ensures { result ≡ maybe_of w }
 {
     if w == NO_VALUE {
-        Maybe::Absent
+        None
     } else {
-        Maybe::Present((w % NUMBERS) as u32)
+        Some((w % NUMBERS) as u32)
     }
 }
 
@@ -88,10 +81,21 @@ pub fn psbt_of(report: &[u64]) -> Psbt
 }
 
 // Whether words are those of an accepted parse.
-pub fn is_report(report: &[u64]) -> bool
+fn is_report(report: &[u64]) -> bool
     ensures { result ≡ is_report report.now }
 {
     word(report, 0) == REPORT_VALUES
+}
+
+// What a parse reported, where the words are those of an accepted one.
+pub fn report_of(report: &[u64]) -> Option<Psbt>
+    ensures { result ≡ report_in report.now }
+{
+    if is_report(report) {
+        Some(psbt_of(report))
+    } else {
+        None
+    }
 }
 
 // A state by two numbers.
@@ -108,16 +112,35 @@ pub fn state_of(set: u64, written: u64) -> State
 fn bit(b: bool) -> u64
     ensures { result ≡ Words·word (flag b) }
 {
-    if b { 1 } else { 0 }
+    u64::from(b)
 }
 
 // A number that may be absent, as a word.
-fn word_of(m: Maybe) -> u64
+fn word_of(m: Option<u32>) -> u64
     ensures { result ≡ Words·word (maybe_value m) }
 {
-    match m {
-        Maybe::Absent => NO_VALUE,
-        Maybe::Present(n) => n as u64,
+    m.map_or(NO_VALUE, |n| n as u64)
+}
+
+// A refusal's answer: its number, and no values.
+fn put_refusal(answer: &mut [u64], error: PsbtError) -> u64
+    ensures { exported result answer.new ≡ answered answer.old (told (number_of error) []) }
+{
+    put(answer, error.number() as u64, NOTHING)
+}
+
+// The answer of a call that is refused, or gives a value: 0 and the value's words.
+fn put_answer<T, F: FnOnce(T) -> [u64; 8]>(
+    answer: &mut [u64],
+    o: Result<T, PsbtError>,
+    words: F,
+) -> u64
+    requires { IfOk o (λ x. F.pre words x) }
+    ensures { Puts o (λ x w. F.post words x w) answer.old (exported result answer.new) }
+{
+    match o {
+        Err(e) => put_refusal(answer, e),
+        Ok(x) => put(answer, 0, words(x)),
     }
 }
 
@@ -125,186 +148,202 @@ fn word_of(m: Maybe) -> u64
 pub fn put_no_report(answer: &mut [u64]) -> u64
     ensures { exported result answer.new ≡ answered answer.old no_report }
 {
-    put(
-        answer,
-        PsbtError::BadIndex.number() as u64,
-        [0, 0, 0, 0, 0, 0, 0, 0],
-    )
+    put_refusal(answer, PsbtError::BadIndex)
+}
+
+// The words of where a value stands, if there is one.
+fn looked_words(found: Option<Part>) -> [u64; 8]
+    ensures { result ≡ words_told (told_looked (Ok found)) }
+{
+    match found {
+        None => NOTHING,
+        Some(p) => [2, p.start as u64, p.len as u64, 0, 0, 0, 0, 0],
+    }
 }
 
 // The answer of a lookup.
-pub fn put_looked(answer: &mut [u64], o: Looked) -> u64
+pub fn put_looked(answer: &mut [u64], o: Result<Option<Part>, PsbtError>) -> u64
     ensures { exported result answer.new ≡ answered answer.old (told_looked o) }
 {
-    match o {
-        Looked::Refused(e) => { put(answer, e.number() as u64, [0, 0, 0, 0, 0, 0, 0, 0]) }
-        Looked::Absent => { put(answer, 0, [0, 0, 0, 0, 0, 0, 0, 0]) }
-        Looked::At { start, len } => {
-            put(answer, 0, [2, start as u64, len as u64, 0, 0, 0, 0, 0])
-        }
+    put_answer(answer, o, looked_words)
+}
+
+// The words of a number, if there is one.
+fn numbered_words(found: Option<u64>) -> [u64; 8]
+    ensures { result ≡ words_told (told_numbered (Ok found)) }
+{
+    match found {
+        None => NOTHING,
+        Some(n) => [1, n, 0, 0, 0, 0, 0, 0],
     }
 }
 
 // The answer of a field that is a number.
-pub fn put_numbered(answer: &mut [u64], o: Numbered) -> u64
+pub fn put_numbered(answer: &mut [u64], o: Result<Option<u64>, PsbtError>) -> u64
     ensures { exported result answer.new ≡ answered answer.old (told_numbered o) }
 {
-    match o {
-        Numbered::Refused(e) => { put(answer, e.number() as u64, [0, 0, 0, 0, 0, 0, 0, 0]) }
-        Numbered::Absent => { put(answer, 0, [0, 0, 0, 0, 0, 0, 0, 0]) }
-        Numbered::Is(n) => { put(answer, 0, [1, n, 0, 0, 0, 0, 0, 0]) }
-    }
+    put_answer(answer, o, numbered_words)
+}
+
+// The words of a listing.
+fn listing_words(l: Listed) -> [u64; 8]
+    ensures { result ≡ words_told (told_listing (Ok l)) }
+{
+    [2, l.first as u64, l.count as u64, 0, 0, 0, 0, 0]
 }
 
 // The answer of a listing.
-pub fn put_listing(answer: &mut [u64], o: Listing) -> u64
+pub fn put_listing(answer: &mut [u64], o: Result<Listed, PsbtError>) -> u64
     ensures { exported result answer.new ≡ answered answer.old (told_listing o) }
 {
-    match o {
-        Listing::Refused(e) => { put(answer, e.number() as u64, [0, 0, 0, 0, 0, 0, 0, 0]) }
-        Listing::Pairs { first, count } => {
-            put(answer, 0, [2, first as u64, count as u64, 0, 0, 0, 0, 0])
-        }
-    }
+    put_answer(answer, o, listing_words)
+}
+
+// The words of a pair.
+fn nth_words(e: PairEntry) -> [u64; 8]
+    ensures { result ≡ words_told (told_nth (Ok e)) }
+{
+    [
+        4,
+        e.key as u64,
+        e.klen as u64,
+        e.value as u64,
+        e.vlen as u64,
+        0,
+        0,
+        0,
+    ]
 }
 
 // The answer of a pair by its number.
-pub fn put_nth(answer: &mut [u64], o: Nth) -> u64
+pub fn put_nth(answer: &mut [u64], o: Result<PairEntry, PsbtError>) -> u64
     ensures { exported result answer.new ≡ answered answer.old (told_nth o) }
 {
-    match o {
-        Nth::Refused(e) => { put(answer, e.number() as u64, [0, 0, 0, 0, 0, 0, 0, 0]) }
-        Nth::Is(e) => {
-            put(
-                answer,
-                0,
-                [
-                    4,
-                    e.key as u64,
-                    e.klen as u64,
-                    e.value as u64,
-                    e.vlen as u64,
-                    0,
-                    0,
-                    0,
-                ],
-            )
-        }
+    put_answer(answer, o, nth_words)
+}
+
+// The words of a spent output, if there is one.
+fn utxo_words(found: Option<WitnessUtxo>) -> [u64; 8]
+    ensures { result ≡ words_told (told_utxo (Ok found)) }
+{
+    match found {
+        None => NOTHING,
+        Some(u) => [3, u.amount, u.start as u64, u.len as u64, 0, 0, 0, 0],
     }
 }
 
 // The answer of a spent output, read.
-pub fn put_utxo(answer: &mut [u64], o: Utxo) -> u64
+pub fn put_utxo(answer: &mut [u64], o: Result<Option<WitnessUtxo>, PsbtError>) -> u64
     ensures { exported result answer.new ≡ answered answer.old (told_utxo o) }
 {
-    match o {
-        Utxo::Refused(e) => { put(answer, e.number() as u64, [0, 0, 0, 0, 0, 0, 0, 0]) }
-        Utxo::Absent => { put(answer, 0, [0, 0, 0, 0, 0, 0, 0, 0]) }
-        Utxo::Is { amount, start, len } => {
-            put(answer, 0, [3, amount, start as u64, len as u64, 0, 0, 0, 0])
-        }
+    put_answer(answer, o, utxo_words)
+}
+
+// The words of what decided the lock: of a rule that refuses it which rule and which input.
+fn lock_words(lock: Lock) -> [u64; 8]
+    ensures { result ≡ words_told (told_lock (Ok lock)) }
+{
+    match lock {
+        Lock::Height { number, input } => [3, 1, number as u64, input, 0, 0, 0, 0],
+        Lock::Time { number, input } => [3, 2, number as u64, input, 0, 0, 0, 0],
+        Lock::Fallback { number } => [2, 0, number as u64, 0, 0, 0, 0, 0],
+        Lock::BothKinds {
+            height_input,
+            time_input,
+        } => [3, 1, height_input, time_input, 0, 0, 0, 0],
+        Lock::HeightTooGreat { number, input } => [3, 2, number as u64, input, 0, 0, 0, 0],
+        Lock::TimeTooSmall { number, input } => [3, 3, number as u64, input, 0, 0, 0, 0],
+        Lock::Malformed { input } => [2, 4, input, 0, 0, 0, 0, 0],
+    }
+}
+
+// The number of what decided the lock: 7 where a rule refuses it.
+fn lock_number(lock: Lock) -> u64
+    ensures { result ≡ number_told (told_lock (Ok lock)) }
+{
+    match lock {
+        Lock::Height { .. } | Lock::Time { .. } | Lock::Fallback { .. } => 0,
+        _ => BAD_VALUE,
     }
 }
 
 // The answer of the lock time: a refusal by a rule tells which rule and which input.
-pub fn put_lock(answer: &mut [u64], o: Lock) -> u64
+pub fn put_lock(answer: &mut [u64], o: Result<Lock, PsbtError>) -> u64
     ensures { exported result answer.new ≡ answered answer.old (told_lock o) }
 {
     match o {
-        Lock::Refused(e) => { put(answer, e.number() as u64, [0, 0, 0, 0, 0, 0, 0, 0]) }
-        Lock::Height { number, input } => {
-            put(answer, 0, [3, 1, number as u64, input, 0, 0, 0, 0])
-        }
-        Lock::Time { number, input } => { put(answer, 0, [3, 2, number as u64, input, 0, 0, 0, 0]) }
-        Lock::Fallback { number } => { put(answer, 0, [2, 0, number as u64, 0, 0, 0, 0, 0]) }
-        Lock::BothKinds {
-            height_input,
-            time_input,
-        } => {
-            put(
-                answer,
-                BAD_VALUE,
-                [3, 1, height_input, time_input, 0, 0, 0, 0],
-            )
-        }
-        Lock::HeightTooGreat { number, input } => {
-            put(answer, BAD_VALUE, [3, 2, number as u64, input, 0, 0, 0, 0])
-        }
-        Lock::TimeTooSmall { number, input } => {
-            put(answer, BAD_VALUE, [3, 3, number as u64, input, 0, 0, 0, 0])
-        }
-        Lock::Malformed { input } => { put(answer, BAD_VALUE, [2, 4, input, 0, 0, 0, 0, 0]) }
+        Err(e) => put_refusal(answer, e),
+        Ok(lock) => put(answer, lock_number(lock), lock_words(lock)),
+    }
+}
+
+// The words of where an output's script stands, if it has one: in the file, or in the table of scripts set.
+fn script_words(found: Option<ScriptPlace>) -> [u64; 8]
+    ensures { result ≡ words_told (told_script (Ok found)) }
+{
+    match found {
+        None => NOTHING,
+        Some(ScriptPlace::InFile { start, len }) => [3, 0, start as u64, len as u64, 0, 0, 0, 0],
+        Some(ScriptPlace::InTable { start, len }) => [3, 1, start as u64, len as u64, 0, 0, 0, 0],
     }
 }
 
 // The answer of an output's script: whether it stands in the file or in the table of scripts set, and where.
-pub fn put_script(answer: &mut [u64], o: OutputScript) -> u64
+pub fn put_script(answer: &mut [u64], o: Result<Option<ScriptPlace>, PsbtError>) -> u64
     ensures { exported result answer.new ≡ answered answer.old (told_script o) }
 {
-    match o {
-        OutputScript::Refused(e) => { put(answer, e.number() as u64, [0, 0, 0, 0, 0, 0, 0, 0]) }
-        OutputScript::Absent => { put(answer, 0, [0, 0, 0, 0, 0, 0, 0, 0]) }
-        OutputScript::InFile { start, len } => {
-            put(answer, 0, [3, 0, start as u64, len as u64, 0, 0, 0, 0])
-        }
-        OutputScript::InTable { start, len } => {
-            put(answer, 0, [3, 1, start as u64, len as u64, 0, 0, 0, 0])
-        }
-    }
+    put_answer(answer, o, script_words)
+}
+
+// The words of a state.
+fn set_words(t: State) -> [u64; 8]
+    ensures { result ≡ words_told (told_set (Ok t)) }
+{
+    [2, bit(t.set), bit(t.written), 0, 0, 0, 0, 0]
 }
 
 // The answer of setting scripts.
-pub fn put_set(answer: &mut [u64], o: ScriptsSet) -> u64
+pub fn put_set(answer: &mut [u64], o: Result<State, PsbtError>) -> u64
     ensures { exported result answer.new ≡ answered answer.old (told_set o) }
 {
-    match o {
-        ScriptsSet::Refused(e) => { put(answer, e.number() as u64, [0, 0, 0, 0, 0, 0, 0, 0]) }
-        ScriptsSet::Done(t) => { put(answer, 0, [2, bit(t.set), bit(t.written), 0, 0, 0, 0, 0]) }
-    }
+    put_answer(answer, o, set_words)
+}
+
+// The words of a transaction that was written.
+fn tx_words(w: Written) -> [u64; 8]
+    ensures { result ≡ words_told (told_tx (Ok w)) }
+{
+    [
+        3,
+        w.len as u64,
+        bit(w.state.set),
+        bit(w.state.written),
+        0,
+        0,
+        0,
+        0,
+    ]
 }
 
 // The answer of writing the transaction.
-pub fn put_tx(answer: &mut [u64], o: UnsignedTx) -> u64
+pub fn put_tx(answer: &mut [u64], o: Result<Written, PsbtError>) -> u64
     ensures { exported result answer.new ≡ answered answer.old (told_tx o) }
 {
-    match o {
-        UnsignedTx::Refused(e) => { put(answer, e.number() as u64, [0, 0, 0, 0, 0, 0, 0, 0]) }
-        UnsignedTx::Written { len, state } => {
-            put(
-                answer,
-                0,
-                [
-                    3,
-                    len as u64,
-                    bit(state.set),
-                    bit(state.written),
-                    0,
-                    0,
-                    0,
-                    0,
-                ],
-            )
-        }
-    }
+    put_answer(answer, o, tx_words)
 }
 
 // What an accepted parse reports.
 fn put_accepted(answer: &mut [u64], psbt: Psbt, pairs: usize, maps: usize) -> u64
     ensures { exported result answer.new ≡ answered answer.old (told_parsed (Accepted psbt pairs maps)) }
 {
-    let fallback = psbt.fallback_locktime;
-    let modifiable = psbt.tx_modifiable;
-    let version = bits_of(psbt.tx_version);
-    let a = word_of(fallback);
-    let b = word_of(modifiable);
     put(
         answer,
         0,
         [
             REPORT_VALUES,
-            version,
-            a,
-            b,
+            bits_of(psbt.tx_version),
+            word_of(psbt.fallback_locktime),
+            word_of(psbt.tx_modifiable),
             psbt.inputs,
             psbt.outputs,
             pairs as u64,
@@ -318,10 +357,7 @@ pub fn put_parsed(answer: &mut [u64], o: Parsed) -> u64
     ensures { exported result answer.new ≡ answered answer.old (told_parsed o) }
 {
     match o {
-        Parsed::Accepted { psbt, pairs, maps } => {
-            let report = psbt;
-            put_accepted(answer, report, pairs, maps)
-        }
+        Parsed::Accepted { psbt, pairs, maps } => put_accepted(answer, psbt, pairs, maps),
         Parsed::Refused { error, pairs, maps } => {
             put(
                 answer,

@@ -1,46 +1,53 @@
 -- Laws of exported calls: what the call below tells, put into the slice, is what the exported one promises.
 use mathlib.Core.Path.{◌≡◌, sym, ◌∙◌, ap, ap₂}
-use mathlib.Core.Bool.{Bool, true, false, not}
+use mathlib.Core.Bool.{true, false}
+use Rattle.std.specs.Prelude.{Option, Some, None}
 use mathlib.Core.List.{List}
 use Prim.Native.Nat.{ℕ, ◌≤◌, ◌<◌}
+use native.Mathlib.Omega.{arith}
 use borrow.Author.Tests.{le-leb, lt-leb}
 use lib.ListN.{length}
 use Rattle.format.specs.Refusals.{number_of}
 use Rattle.format.specs.Told.{Told, ToldParse, told_with, ToldOut, told_left}
 use Rattle.format.specs.declared.Psbt.{Psbt}
 use Rattle.format.specs.declared.State.{State}
-use Rattle.format.proofs.Tests.{never_true}
+use Rattle.format.proofs.Tests.{pick_by}
 use Rattle.export_words.proofs.Reports.{none_asked, none_asked_in, none_out}
-use Rattle.export_words.specs.Words.{Export, exported, answered, psbt_in, is_report, no_report, state_of, asked, asked_in_def}
+use Rattle.export_words.specs.Words.{Export, exported, answered, psbt_in, is_report, report_in, no_report, state_of, asked, asked_in_def}
 use Rattle.export_words.specs.Words.{leaves, leaves_both, parse_left, parse_export, out_left, out_export}
 
--- the words are no report, or are one
-no_report_lem : (q b : Bool) → q ≡ b → not q ≡ true → b ≡ false
-no_report_lem true b h n = never_true n
-no_report_lem false b h n = sym h
+no_some : {A : Type 0} {s : Psbt} → None ≡ Some s → A
+no_some e = let z : ◌≡◌ {A = ℕ} 0 1 = cc in absurd (omega arith)
 
-a_report : (q b : Bool) → q ≡ b → not q ≡ false → b ≡ true
-a_report true b h y = sym h
-a_report false b h y = never_true (sym y)
+-- the words are no report, or are one, and what they report
+module _ (R : List ℕ) where
+  no_report_lem : None ≡ report_in R → is_report R ≡ false
+  unfolding report_in
+  no_report_lem = pick_by (λ (r : Option Psbt). None ≡ r → is_report R ≡ false) (is_report R) _ _ (λ y e. no_some e) (λ n e. n)
+
+  a_report : (s : Psbt) → Some s ≡ report_in R → (is_report R ≡ true) × (s ≡ psbt_in R)
+  unfolding report_in
+  a_report s = pick_by (λ (r : Option Psbt). Some s ≡ r → (is_report R ≡ true) × (s ≡ psbt_in R)) (is_report R) _ _ (λ y e. (y, (cc))) (λ n e. no_some (sym e))
 
 -- a call that changes no lent memory but the slice
-module _ (R A : List ℕ) (q : Bool) (h : q ≡ is_report R) (x : Export) where
-  pub asked_none : (k : Psbt → Told) → not q ≡ true → x ≡ answered A no_report → x ≡ asked R A k
-  asked_none k n e = e ∙ sym (none_asked R A (no_report_lem q (is_report R) h n) k)
+module _ (R A : List ℕ) (r : Option Psbt) (h : r ≡ report_in R) (x : Export) where
+  pub asked_none : (k : Psbt → Told) → r ≡ None → x ≡ answered A no_report → x ≡ asked R A k
+  asked_none k n e = e ∙ sym (none_asked R A (no_report_lem R (sym n ∙ h)) k)
 
-  pub asked_by : (k : Psbt → Told) → not q ≡ false → (s : Psbt) (t : Told) → s ≡ psbt_in R → t ≡ k s → x ≡ answered A t → x ≡ asked R A k
+  pub asked_by : (k : Psbt → Told) (s : Psbt) (t : Told) → r ≡ Some s → t ≡ k s → x ≡ answered A t → x ≡ asked R A k
   unfolding asked
-  asked_by k y s t p r e = e ∙ ap (answered A) (r ∙ ap k p) ∙ sym (rw (a_report q (is_report R) h y))
+  asked_by k s t y q e =
+      let w = a_report R s (sym y ∙ h) in
+      e ∙ ap (answered A) (q ∙ ap k w.1) ∙ sym (rw w.0)
 
   -- with the state
   module _ (a b : ℕ) (k : State → Psbt → Told) where
-    pub in_none : not q ≡ true → x ≡ answered A no_report → x ≡ asked_in_def a b R A k
-    in_none n e = e ∙ sym (none_asked_in R A (no_report_lem q (is_report R) h n) a b k)
+    pub in_none : r ≡ None → x ≡ answered A no_report → x ≡ asked_in_def a b R A k
+    in_none n e = e ∙ sym (none_asked_in R A (no_report_lem R (sym n ∙ h)) a b k)
 
-    pub asked_in : not q ≡ false → (z : State) (s : Psbt) (t : Told) → z ≡ state_of a b → s ≡ psbt_in R → t ≡ k z s → x ≡ answered A t
-        → x ≡ asked_in_def a b R A k
+    pub asked_in : (z : State) (s : Psbt) (t : Told) → r ≡ Some s → z ≡ state_of a b → t ≡ k z s → x ≡ answered A t → x ≡ asked_in_def a b R A k
     unfolding asked_in_def
-    asked_in y z s t w p r e = asked_by (k (state_of a b)) y s t p (r ∙ ap (λ (z : State). k z s) w) e
+    asked_in z s t y w q e = asked_by (k (state_of a b)) s t y (q ∙ ap (λ (z : State). k z s) w) e
 
 pub ruleset asks = (asked_none, asked_by)
 
@@ -52,15 +59,16 @@ module _ (a b : ℕ) (R A B : List ℕ) (k : State → Psbt → ToldOut) where
   unfolding out_export number_of
   out_short h = rw (lt-leb 8 (length A) h)
 
-  module _ (q : Bool) (h : q ≡ is_report R) (x : Export) where
-    pub out_none : not q ≡ true → x ≡ answered A no_report → leaves x B ≡ out_export a b R A B k
-    out_none n e = ap (λ (y : Export). leaves y B) e ∙ sym (none_out R A (no_report_lem q (is_report R) h n) a b B k)
+  module _ (r : Option Psbt) (h : r ≡ report_in R) (x : Export) where
+    pub out_none : r ≡ None → x ≡ answered A no_report → leaves x B ≡ out_export a b R A B k
+    out_none n e = ap (λ (y : Export). leaves y B) e ∙ sym (none_out R A (no_report_lem R (sym n ∙ h)) a b B k)
 
-    pub out_by : 8 ≤ length A → not q ≡ false → (z : State) (s : Psbt) (t : Told) (C : List ℕ)
-        → z ≡ state_of a b → s ≡ psbt_in R → told_left t C ≡ k z s → x ≡ answered A t
-        → leaves x C ≡ out_export a b R A B k
+    pub out_by : 8 ≤ length A → (z : State) (s : Psbt) (t : Told) (C : List ℕ)
+        → r ≡ Some s → z ≡ state_of a b → told_left t C ≡ k z s → x ≡ answered A t → leaves x C ≡ out_export a b R A B k
     unfolding out_export out_left
-    out_by l y z s t C w p r e = rw (le-leb 8 (length A) l, a_report q (is_report R) h y) (ap (λ (y : Export). leaves y C) e ∙ ap (out_left A) (r ∙ ap₂ k w p))
+    out_by l z s t C y w q e =
+        let v = a_report R s (sym y ∙ h) in
+        rw (le-leb 8 (length A) l, v.0) (ap (λ (y : Export). leaves y C) e ∙ ap (out_left A) (q ∙ ap₂ k w v.1))
 
 pub ruleset outs = (out_short, out_none, out_by)
 

@@ -1,5 +1,5 @@
 // The library for programs in C and Rust: every public call in numbers and slices (`include/fastpsbt.h`).
-#![tactic(auto)]
+#![tactic(auto, using(crate::proofs::Calls::asks, crate::proofs::Calls::asks_in, crate::proofs::Calls::outs, crate::proofs::Calls::parses))]
 
 ghost use Rattle.std.specs.Prelude.{◌≡◌};
 ghost use Rattle.format.specs.Fields.{amount, final_scriptsig, final_scriptwitness, get_witness_utxo, global_proof, global_share, input_participants};
@@ -17,8 +17,8 @@ ghost use Rattle.format.specs.Transaction.{lock_decided, output_script_def, unsi
 ghost use Rattle.export_words.specs.Words.{exported, asked, asked_in_def, leaves, leaves_both, out_export, parse_export};
 
 use export_words::{
-    ANSWER, NO_ROOM, is_report, psbt_of, put_listing, put_lock, put_looked, put_no_report, put_nth,
-    put_numbered, put_parsed, put_script, put_set, put_tx, put_utxo, state_of,
+    ANSWER, NO_ROOM, put_listing, put_lock, put_looked, put_no_report, put_nth, put_numbered,
+    put_parsed, put_script, put_set, put_tx, put_utxo, report_of, state_of,
 };
 
 // Parses a file: four words for each pair go into `pairs`, two for each map into `maps`. It reports the global fields and how many entries
@@ -48,10 +48,9 @@ pub fn fastpsbt_lock_decided(
         ≡ asked report.now answer.old
         (λ s. told_lock (lock_decided (view file.now pairs.now maps.now s) s)) }
 {
-    if !is_report(report) {
+    let Some(psbt) = report_of(report) else {
         return put_no_report(answer);
-    }
-    let psbt = psbt_of(report);
+    };
     let o = fastpsbt::lock_decided(file, pairs, maps, psbt);
     put_lock(answer, o)
 }
@@ -78,10 +77,9 @@ pub fn fastpsbt_set_sp_output_scripts(
     if answer.len() < ANSWER {
         return NO_ROOM;
     }
-    if !is_report(report) {
+    let Some(psbt) = report_of(report) else {
         return put_no_report(answer);
-    }
-    let psbt = psbt_of(report);
+    };
     let state = state_of(set, written);
     let o = fastpsbt::set_sp_output_scripts(file, pairs, maps, psbt, list, buffer, state, scripts);
     put_set(answer, o)
@@ -108,10 +106,9 @@ pub fn fastpsbt_unsigned_tx(
     if answer.len() < ANSWER {
         return NO_ROOM;
     }
-    if !is_report(report) {
+    let Some(psbt) = report_of(report) else {
         return put_no_report(answer);
-    }
-    let psbt = psbt_of(report);
+    };
     let state = state_of(set, written);
     let o = fastpsbt::unsigned_tx(file, pairs, maps, psbt, state, scripts, out);
     put_tx(answer, o)
@@ -133,10 +130,9 @@ pub fn fastpsbt_map_get(
         (λ s. told_looked (look file.now key_type
         key_data.now (held file.now pairs.now maps.now s m))) }
 {
-    if !is_report(report) {
+    let Some(psbt) = report_of(report) else {
         return put_no_report(answer);
-    }
-    let psbt = psbt_of(report);
+    };
     let o = fastpsbt::map::get(file, pairs, maps, psbt, m, key_type, key_data);
     put_looked(answer, o)
 }
@@ -155,10 +151,9 @@ pub fn fastpsbt_map_list(
         ≡ asked report.now answer.old
         (λ s. told_listing (list file.now key_type (held file.now pairs.now maps.now s m))) }
 {
-    if !is_report(report) {
+    let Some(psbt) = report_of(report) else {
         return put_no_report(answer);
-    }
-    let psbt = psbt_of(report);
+    };
     let o = fastpsbt::map::list(file, pairs, maps, psbt, m, key_type);
     put_listing(answer, o)
 }
@@ -177,10 +172,9 @@ pub fn fastpsbt_map_nth(
         ≡ asked report.now answer.old
         (λ s. told_nth (nth i (held file.now pairs.now maps.now s m))) }
 {
-    if !is_report(report) {
+    let Some(psbt) = report_of(report) else {
         return put_no_report(answer);
-    }
-    let psbt = psbt_of(report);
+    };
     let o = fastpsbt::map::nth(file, pairs, maps, psbt, m, i);
     put_nth(answer, o)
 }
@@ -199,10 +193,9 @@ pub fn fastpsbt_global_get_sp_ecdh_share(
         (λ s. told_looked (global_share file.now
         scan_key.now (held file.now pairs.now maps.now s 0))) }
 {
-    if !is_report(report) {
+    let Some(psbt) = report_of(report) else {
         return put_no_report(answer);
-    }
-    let psbt = psbt_of(report);
+    };
     let o = fastpsbt::global::get_sp_ecdh_share(file, pairs, maps, psbt, scan_key);
     put_looked(answer, o)
 }
@@ -221,10 +214,9 @@ pub fn fastpsbt_global_get_sp_dleq_proof(
         (λ s. told_looked (global_proof file.now
         scan_key.now (held file.now pairs.now maps.now s 0))) }
 {
-    if !is_report(report) {
+    let Some(psbt) = report_of(report) else {
         return put_no_report(answer);
-    }
-    let psbt = psbt_of(report);
+    };
     let o = fastpsbt::global::get_sp_dleq_proof(file, pairs, maps, psbt, scan_key);
     put_looked(answer, o)
 }
@@ -241,10 +233,9 @@ pub fn fastpsbt_global_sp_ecdh_shares(
         ≡ asked report.now answer.old
         (λ s. told_listing (list file.now 0x07 (held file.now pairs.now maps.now s 0))) }
 {
-    if !is_report(report) {
+    let Some(psbt) = report_of(report) else {
         return put_no_report(answer);
-    }
-    let psbt = psbt_of(report);
+    };
     let o = fastpsbt::global::sp_ecdh_shares(file, pairs, maps, psbt);
     put_listing(answer, o)
 }
@@ -261,10 +252,9 @@ pub fn fastpsbt_global_sp_dleq_proofs(
         ≡ asked report.now answer.old
         (λ s. told_listing (list file.now 0x08 (held file.now pairs.now maps.now s 0))) }
 {
-    if !is_report(report) {
+    let Some(psbt) = report_of(report) else {
         return put_no_report(answer);
-    }
-    let psbt = psbt_of(report);
+    };
     let o = fastpsbt::global::sp_dleq_proofs(file, pairs, maps, psbt);
     put_listing(answer, o)
 }
@@ -282,10 +272,9 @@ pub fn fastpsbt_input_non_witness_utxo(
         ≡ asked report.now answer.old
         (λ s. told_looked (non_witness_utxo file.now (held_input file.now pairs.now maps.now s i))) }
 {
-    if !is_report(report) {
+    let Some(psbt) = report_of(report) else {
         return put_no_report(answer);
-    }
-    let psbt = psbt_of(report);
+    };
     let o = fastpsbt::input::non_witness_utxo(file, pairs, maps, psbt, i);
     put_looked(answer, o)
 }
@@ -303,10 +292,9 @@ pub fn fastpsbt_input_witness_utxo(
         ≡ asked report.now answer.old
         (λ s. told_looked (witness_utxo_def file.now (held_input file.now pairs.now maps.now s i))) }
 {
-    if !is_report(report) {
+    let Some(psbt) = report_of(report) else {
         return put_no_report(answer);
-    }
-    let psbt = psbt_of(report);
+    };
     let o = fastpsbt::input::witness_utxo(file, pairs, maps, psbt, i);
     put_looked(answer, o)
 }
@@ -324,10 +312,9 @@ pub fn fastpsbt_input_sighash_type(
         ≡ asked report.now answer.old
         (λ s. told_numbered (sighash_type file.now (held_input file.now pairs.now maps.now s i))) }
 {
-    if !is_report(report) {
+    let Some(psbt) = report_of(report) else {
         return put_no_report(answer);
-    }
-    let psbt = psbt_of(report);
+    };
     let o = fastpsbt::input::sighash_type(file, pairs, maps, psbt, i);
     put_numbered(answer, o)
 }
@@ -345,10 +332,9 @@ pub fn fastpsbt_input_redeem_script(
         ≡ asked report.now answer.old
         (λ s. told_looked (redeem_script file.now (held_input file.now pairs.now maps.now s i))) }
 {
-    if !is_report(report) {
+    let Some(psbt) = report_of(report) else {
         return put_no_report(answer);
-    }
-    let psbt = psbt_of(report);
+    };
     let o = fastpsbt::input::redeem_script(file, pairs, maps, psbt, i);
     put_looked(answer, o)
 }
@@ -366,10 +352,9 @@ pub fn fastpsbt_input_witness_script(
         ≡ asked report.now answer.old
         (λ s. told_looked (witness_script file.now (held_input file.now pairs.now maps.now s i))) }
 {
-    if !is_report(report) {
+    let Some(psbt) = report_of(report) else {
         return put_no_report(answer);
-    }
-    let psbt = psbt_of(report);
+    };
     let o = fastpsbt::input::witness_script(file, pairs, maps, psbt, i);
     put_looked(answer, o)
 }
@@ -387,10 +372,9 @@ pub fn fastpsbt_input_final_scriptsig(
         ≡ asked report.now answer.old
         (λ s. told_looked (final_scriptsig file.now (held_input file.now pairs.now maps.now s i))) }
 {
-    if !is_report(report) {
+    let Some(psbt) = report_of(report) else {
         return put_no_report(answer);
-    }
-    let psbt = psbt_of(report);
+    };
     let o = fastpsbt::input::final_scriptsig(file, pairs, maps, psbt, i);
     put_looked(answer, o)
 }
@@ -408,10 +392,9 @@ pub fn fastpsbt_input_final_scriptwitness(
         ≡ asked report.now answer.old
         (λ s. told_looked (final_scriptwitness file.now (held_input file.now pairs.now maps.now s i))) }
 {
-    if !is_report(report) {
+    let Some(psbt) = report_of(report) else {
         return put_no_report(answer);
-    }
-    let psbt = psbt_of(report);
+    };
     let o = fastpsbt::input::final_scriptwitness(file, pairs, maps, psbt, i);
     put_looked(answer, o)
 }
@@ -429,10 +412,9 @@ pub fn fastpsbt_input_previous_txid(
         ≡ asked report.now answer.old
         (λ s. told_looked (previous_txid file.now (held_input file.now pairs.now maps.now s i))) }
 {
-    if !is_report(report) {
+    let Some(psbt) = report_of(report) else {
         return put_no_report(answer);
-    }
-    let psbt = psbt_of(report);
+    };
     let o = fastpsbt::input::previous_txid(file, pairs, maps, psbt, i);
     put_looked(answer, o)
 }
@@ -450,10 +432,9 @@ pub fn fastpsbt_input_output_index(
         ≡ asked report.now answer.old
         (λ s. told_numbered (output_index file.now (held_input file.now pairs.now maps.now s i))) }
 {
-    if !is_report(report) {
+    let Some(psbt) = report_of(report) else {
         return put_no_report(answer);
-    }
-    let psbt = psbt_of(report);
+    };
     let o = fastpsbt::input::output_index(file, pairs, maps, psbt, i);
     put_numbered(answer, o)
 }
@@ -471,10 +452,9 @@ pub fn fastpsbt_input_sequence(
         ≡ asked report.now answer.old
         (λ s. told_numbered (sequence file.now (held_input file.now pairs.now maps.now s i))) }
 {
-    if !is_report(report) {
+    let Some(psbt) = report_of(report) else {
         return put_no_report(answer);
-    }
-    let psbt = psbt_of(report);
+    };
     let o = fastpsbt::input::sequence(file, pairs, maps, psbt, i);
     put_numbered(answer, o)
 }
@@ -492,10 +472,9 @@ pub fn fastpsbt_input_required_time_locktime(
         ≡ asked report.now answer.old
         (λ s. told_numbered (required_time_locktime file.now (held_input file.now pairs.now maps.now s i))) }
 {
-    if !is_report(report) {
+    let Some(psbt) = report_of(report) else {
         return put_no_report(answer);
-    }
-    let psbt = psbt_of(report);
+    };
     let o = fastpsbt::input::required_time_locktime(file, pairs, maps, psbt, i);
     put_numbered(answer, o)
 }
@@ -513,10 +492,9 @@ pub fn fastpsbt_input_required_height_locktime(
         ≡ asked report.now answer.old
         (λ s. told_numbered (required_height_locktime file.now (held_input file.now pairs.now maps.now s i))) }
 {
-    if !is_report(report) {
+    let Some(psbt) = report_of(report) else {
         return put_no_report(answer);
-    }
-    let psbt = psbt_of(report);
+    };
     let o = fastpsbt::input::required_height_locktime(file, pairs, maps, psbt, i);
     put_numbered(answer, o)
 }
@@ -534,10 +512,9 @@ pub fn fastpsbt_input_sp_tweak(
         ≡ asked report.now answer.old
         (λ s. told_looked (sp_tweak file.now (held_input file.now pairs.now maps.now s i))) }
 {
-    if !is_report(report) {
+    let Some(psbt) = report_of(report) else {
         return put_no_report(answer);
-    }
-    let psbt = psbt_of(report);
+    };
     let o = fastpsbt::input::sp_tweak(file, pairs, maps, psbt, i);
     put_looked(answer, o)
 }
@@ -556,10 +533,9 @@ pub fn fastpsbt_input_iter_keys(
         ≡ asked report.now answer.old
         (λ s. told_listing (list file.now key_type (held_input file.now pairs.now maps.now s i))) }
 {
-    if !is_report(report) {
+    let Some(psbt) = report_of(report) else {
         return put_no_report(answer);
-    }
-    let psbt = psbt_of(report);
+    };
     let o = fastpsbt::input::iter_keys(file, pairs, maps, psbt, i, key_type);
     put_listing(answer, o)
 }
@@ -577,10 +553,9 @@ pub fn fastpsbt_input_bip32_derivations(
         ≡ asked report.now answer.old
         (λ s. told_listing (list file.now 0x06 (held_input file.now pairs.now maps.now s i))) }
 {
-    if !is_report(report) {
+    let Some(psbt) = report_of(report) else {
         return put_no_report(answer);
-    }
-    let psbt = psbt_of(report);
+    };
     let o = fastpsbt::input::bip32_derivations(file, pairs, maps, psbt, i);
     put_listing(answer, o)
 }
@@ -600,10 +575,9 @@ pub fn fastpsbt_input_get_sp_ecdh_share(
         (λ s. told_looked (input_share file.now
         scan_key.now (held_input file.now pairs.now maps.now s i))) }
 {
-    if !is_report(report) {
+    let Some(psbt) = report_of(report) else {
         return put_no_report(answer);
-    }
-    let psbt = psbt_of(report);
+    };
     let o = fastpsbt::input::get_sp_ecdh_share(file, pairs, maps, psbt, i, scan_key);
     put_looked(answer, o)
 }
@@ -623,10 +597,9 @@ pub fn fastpsbt_input_get_sp_dleq_proof(
         (λ s. told_looked (input_proof file.now
         scan_key.now (held_input file.now pairs.now maps.now s i))) }
 {
-    if !is_report(report) {
+    let Some(psbt) = report_of(report) else {
         return put_no_report(answer);
-    }
-    let psbt = psbt_of(report);
+    };
     let o = fastpsbt::input::get_sp_dleq_proof(file, pairs, maps, psbt, i, scan_key);
     put_looked(answer, o)
 }
@@ -644,10 +617,9 @@ pub fn fastpsbt_input_sp_ecdh_shares(
         ≡ asked report.now answer.old
         (λ s. told_listing (list file.now 0x1d (held_input file.now pairs.now maps.now s i))) }
 {
-    if !is_report(report) {
+    let Some(psbt) = report_of(report) else {
         return put_no_report(answer);
-    }
-    let psbt = psbt_of(report);
+    };
     let o = fastpsbt::input::sp_ecdh_shares(file, pairs, maps, psbt, i);
     put_listing(answer, o)
 }
@@ -665,10 +637,9 @@ pub fn fastpsbt_input_sp_dleq_proofs(
         ≡ asked report.now answer.old
         (λ s. told_listing (list file.now 0x1e (held_input file.now pairs.now maps.now s i))) }
 {
-    if !is_report(report) {
+    let Some(psbt) = report_of(report) else {
         return put_no_report(answer);
-    }
-    let psbt = psbt_of(report);
+    };
     let o = fastpsbt::input::sp_dleq_proofs(file, pairs, maps, psbt, i);
     put_listing(answer, o)
 }
@@ -686,10 +657,9 @@ pub fn fastpsbt_input_sp_spend_bip32_derivations(
         ≡ asked report.now answer.old
         (λ s. told_listing (list file.now 0x1f (held_input file.now pairs.now maps.now s i))) }
 {
-    if !is_report(report) {
+    let Some(psbt) = report_of(report) else {
         return put_no_report(answer);
-    }
-    let psbt = psbt_of(report);
+    };
     let o = fastpsbt::input::sp_spend_bip32_derivations(file, pairs, maps, psbt, i);
     put_listing(answer, o)
 }
@@ -711,10 +681,9 @@ pub fn fastpsbt_input_get_musig2_pub_nonce(
         (λ s. told_looked (pub_nonce file.now participant.now
         aggregate.now leaf.now (held_input file.now pairs.now maps.now s i))) }
 {
-    if !is_report(report) {
+    let Some(psbt) = report_of(report) else {
         return put_no_report(answer);
-    }
-    let psbt = psbt_of(report);
+    };
     let o = fastpsbt::input::get_musig2_pub_nonce(
         file,
         pairs,
@@ -745,10 +714,9 @@ pub fn fastpsbt_input_get_musig2_partial_sig(
         (λ s. told_looked (partial_sig file.now participant.now
         aggregate.now leaf.now (held_input file.now pairs.now maps.now s i))) }
 {
-    if !is_report(report) {
+    let Some(psbt) = report_of(report) else {
         return put_no_report(answer);
-    }
-    let psbt = psbt_of(report);
+    };
     let o = fastpsbt::input::get_musig2_partial_sig(
         file,
         pairs,
@@ -778,10 +746,9 @@ pub fn fastpsbt_input_get_musig2_participant_pubkeys(
         (λ s. told_looked (input_participants file.now
         aggregate.now leaf.now (held_input file.now pairs.now maps.now s i))) }
 {
-    if !is_report(report) {
+    let Some(psbt) = report_of(report) else {
         return put_no_report(answer);
-    }
-    let psbt = psbt_of(report);
+    };
     let o = fastpsbt::input::get_musig2_participant_pubkeys(
         file, pairs, maps, psbt, i, aggregate, leaf,
     );
@@ -804,10 +771,9 @@ pub fn fastpsbt_input_get_musig2_participant_count(
         (λ s. told_numbered (participant_count (input_participants file.now
         aggregate.now leaf.now (held_input file.now pairs.now maps.now s i)))) }
 {
-    if !is_report(report) {
+    let Some(psbt) = report_of(report) else {
         return put_no_report(answer);
-    }
-    let psbt = psbt_of(report);
+    };
     let o = fastpsbt::input::get_musig2_participant_count(
         file, pairs, maps, psbt, i, aggregate, leaf,
     );
@@ -831,10 +797,9 @@ pub fn fastpsbt_input_get_musig2_participant(
         (λ s. told_looked (participant n (input_participants file.now
         aggregate.now leaf.now (held_input file.now pairs.now maps.now s i)))) }
 {
-    if !is_report(report) {
+    let Some(psbt) = report_of(report) else {
         return put_no_report(answer);
-    }
-    let psbt = psbt_of(report);
+    };
     let o = fastpsbt::input::get_musig2_participant(file, pairs, maps, psbt, i, aggregate, leaf, n);
     put_looked(answer, o)
 }
@@ -852,10 +817,9 @@ pub fn fastpsbt_input_get_witness_utxo(
         ≡ asked report.now answer.old
         (λ s. told_utxo (get_witness_utxo file.now (held_input file.now pairs.now maps.now s i))) }
 {
-    if !is_report(report) {
+    let Some(psbt) = report_of(report) else {
         return put_no_report(answer);
-    }
-    let psbt = psbt_of(report);
+    };
     let o = fastpsbt::input::get_witness_utxo(file, pairs, maps, psbt, i);
     put_utxo(answer, o)
 }
@@ -873,10 +837,9 @@ pub fn fastpsbt_output_redeem_script(
         ≡ asked report.now answer.old
         (λ s. told_looked (out_redeem_script file.now (held_output file.now pairs.now maps.now s i))) }
 {
-    if !is_report(report) {
+    let Some(psbt) = report_of(report) else {
         return put_no_report(answer);
-    }
-    let psbt = psbt_of(report);
+    };
     let o = fastpsbt::output::redeem_script(file, pairs, maps, psbt, i);
     put_looked(answer, o)
 }
@@ -894,10 +857,9 @@ pub fn fastpsbt_output_witness_script(
         ≡ asked report.now answer.old
         (λ s. told_looked (out_witness_script file.now (held_output file.now pairs.now maps.now s i))) }
 {
-    if !is_report(report) {
+    let Some(psbt) = report_of(report) else {
         return put_no_report(answer);
-    }
-    let psbt = psbt_of(report);
+    };
     let o = fastpsbt::output::witness_script(file, pairs, maps, psbt, i);
     put_looked(answer, o)
 }
@@ -915,10 +877,9 @@ pub fn fastpsbt_output_amount(
         ≡ asked report.now answer.old
         (λ s. told_numbered (amount file.now (held_output file.now pairs.now maps.now s i))) }
 {
-    if !is_report(report) {
+    let Some(psbt) = report_of(report) else {
         return put_no_report(answer);
-    }
-    let psbt = psbt_of(report);
+    };
     let o = fastpsbt::output::amount(file, pairs, maps, psbt, i);
     put_numbered(answer, o)
 }
@@ -936,10 +897,9 @@ pub fn fastpsbt_output_script(
         ≡ asked report.now answer.old
         (λ s. told_looked (script file.now (held_output file.now pairs.now maps.now s i))) }
 {
-    if !is_report(report) {
+    let Some(psbt) = report_of(report) else {
         return put_no_report(answer);
-    }
-    let psbt = psbt_of(report);
+    };
     let o = fastpsbt::output::script(file, pairs, maps, psbt, i);
     put_looked(answer, o)
 }
@@ -957,10 +917,9 @@ pub fn fastpsbt_output_sp_v0_info(
         ≡ asked report.now answer.old
         (λ s. told_looked (sp_v0_info file.now (held_output file.now pairs.now maps.now s i))) }
 {
-    if !is_report(report) {
+    let Some(psbt) = report_of(report) else {
         return put_no_report(answer);
-    }
-    let psbt = psbt_of(report);
+    };
     let o = fastpsbt::output::sp_v0_info(file, pairs, maps, psbt, i);
     put_looked(answer, o)
 }
@@ -978,10 +937,9 @@ pub fn fastpsbt_output_sp_v0_label(
         ≡ asked report.now answer.old
         (λ s. told_numbered (sp_v0_label file.now (held_output file.now pairs.now maps.now s i))) }
 {
-    if !is_report(report) {
+    let Some(psbt) = report_of(report) else {
         return put_no_report(answer);
-    }
-    let psbt = psbt_of(report);
+    };
     let o = fastpsbt::output::sp_v0_label(file, pairs, maps, psbt, i);
     put_numbered(answer, o)
 }
@@ -1000,10 +958,9 @@ pub fn fastpsbt_output_iter_keys(
         ≡ asked report.now answer.old
         (λ s. told_listing (list file.now key_type (held_output file.now pairs.now maps.now s i))) }
 {
-    if !is_report(report) {
+    let Some(psbt) = report_of(report) else {
         return put_no_report(answer);
-    }
-    let psbt = psbt_of(report);
+    };
     let o = fastpsbt::output::iter_keys(file, pairs, maps, psbt, i, key_type);
     put_listing(answer, o)
 }
@@ -1021,10 +978,9 @@ pub fn fastpsbt_output_bip32_derivations(
         ≡ asked report.now answer.old
         (λ s. told_listing (list file.now 0x02 (held_output file.now pairs.now maps.now s i))) }
 {
-    if !is_report(report) {
+    let Some(psbt) = report_of(report) else {
         return put_no_report(answer);
-    }
-    let psbt = psbt_of(report);
+    };
     let o = fastpsbt::output::bip32_derivations(file, pairs, maps, psbt, i);
     put_listing(answer, o)
 }
@@ -1044,10 +1000,9 @@ pub fn fastpsbt_output_get_musig2_participant_pubkeys(
         (λ s. told_looked (output_participants file.now
         aggregate.now (held_output file.now pairs.now maps.now s i))) }
 {
-    if !is_report(report) {
+    let Some(psbt) = report_of(report) else {
         return put_no_report(answer);
-    }
-    let psbt = psbt_of(report);
+    };
     let o = fastpsbt::output::get_musig2_participant_pubkeys(file, pairs, maps, psbt, i, aggregate);
     put_looked(answer, o)
 }
@@ -1067,10 +1022,9 @@ pub fn fastpsbt_output_get_musig2_participant_count(
         (λ s. told_numbered (participant_count (output_participants file.now
         aggregate.now (held_output file.now pairs.now maps.now s i)))) }
 {
-    if !is_report(report) {
+    let Some(psbt) = report_of(report) else {
         return put_no_report(answer);
-    }
-    let psbt = psbt_of(report);
+    };
     let o = fastpsbt::output::get_musig2_participant_count(file, pairs, maps, psbt, i, aggregate);
     put_numbered(answer, o)
 }
@@ -1091,10 +1045,9 @@ pub fn fastpsbt_output_get_musig2_participant(
         (λ s. told_looked (participant n (output_participants file.now
         aggregate.now (held_output file.now pairs.now maps.now s i)))) }
 {
-    if !is_report(report) {
+    let Some(psbt) = report_of(report) else {
         return put_no_report(answer);
-    }
-    let psbt = psbt_of(report);
+    };
     let o = fastpsbt::output::get_musig2_participant(file, pairs, maps, psbt, i, aggregate, n);
     put_looked(answer, o)
 }
@@ -1116,10 +1069,9 @@ pub fn fastpsbt_output_output_script(
         (λ t s. told_script (output_script_def file.now t
         scripts.now i (held_output file.now pairs.now maps.now s i))) }
 {
-    if !is_report(report) {
+    let Some(psbt) = report_of(report) else {
         return put_no_report(answer);
-    }
-    let psbt = psbt_of(report);
+    };
     let state = state_of(set, written);
     let o = fastpsbt::output::output_script(file, pairs, maps, psbt, state, scripts, i);
     put_script(answer, o)

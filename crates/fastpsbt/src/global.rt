@@ -5,7 +5,7 @@ ghost use Rattle.format.specs.Lookups.{list};
 ghost use Rattle.format.specs.Tables.{held};
 ghost use Rattle.format.specs.Told.{told_listing, told_looked};
 
-use format::{Listing, Looked, Psbt};
+use format::{Listed, Part, Psbt, PsbtError};
 
 // The ECDH share of a scan key.
 pub fn get_sp_ecdh_share(
@@ -14,7 +14,7 @@ pub fn get_sp_ecdh_share(
     maps: &[u32],
     psbt: Psbt,
     scan_key: &[u8],
-) -> Looked
+) -> Result<Option<Part>, PsbtError>
     ensures { told_looked result
         ≡ told_looked (global_share file.now scan_key.now
         (held file.now pairs.now maps.now psbt 0)) }
@@ -29,7 +29,7 @@ pub fn get_sp_dleq_proof(
     maps: &[u32],
     psbt: Psbt,
     scan_key: &[u8],
-) -> Looked
+) -> Result<Option<Part>, PsbtError>
     ensures { told_looked result
         ≡ told_looked (global_proof file.now scan_key.now
         (held file.now pairs.now maps.now psbt 0)) }
@@ -38,14 +38,24 @@ pub fn get_sp_dleq_proof(
 }
 
 // All shares.
-pub fn sp_ecdh_shares(file: &[u8], pairs: &[u32], maps: &[u32], psbt: Psbt) -> Listing
+pub fn sp_ecdh_shares(
+    file: &[u8],
+    pairs: &[u32],
+    maps: &[u32],
+    psbt: Psbt,
+) -> Result<Listed, PsbtError>
     ensures { told_listing result ≡ told_listing (list file.now 0x07 (held file.now pairs.now maps.now psbt 0)) }
 {
     silent_payments::global::sp_ecdh_shares(file, pairs, maps, psbt)
 }
 
 // All proofs.
-pub fn sp_dleq_proofs(file: &[u8], pairs: &[u32], maps: &[u32], psbt: Psbt) -> Listing
+pub fn sp_dleq_proofs(
+    file: &[u8],
+    pairs: &[u32],
+    maps: &[u32],
+    psbt: Psbt,
+) -> Result<Listed, PsbtError>
     ensures { told_listing result ≡ told_listing (list file.now 0x08 (held file.now pairs.now maps.now psbt 0)) }
 {
     silent_payments::global::sp_dleq_proofs(file, pairs, maps, psbt)

@@ -8,10 +8,16 @@ ghost use Rattle.format.specs.Lookups.{list};
 ghost use Rattle.format.specs.Tables.{held_input};
 ghost use Rattle.format.specs.Told.{told_listing, told_looked, told_numbered, told_utxo};
 
-use format::{Listing, Looked, Numbered, Psbt, Utxo};
+use format::{Listed, Part, Psbt, PsbtError, WitnessUtxo};
 
 // The whole previous transaction, as its bytes.
-pub fn non_witness_utxo(file: &[u8], pairs: &[u32], maps: &[u32], psbt: Psbt, i: u64) -> Looked
+pub fn non_witness_utxo(
+    file: &[u8],
+    pairs: &[u32],
+    maps: &[u32],
+    psbt: Psbt,
+    i: u64,
+) -> Result<Option<Part>, PsbtError>
     ensures { told_looked result
         ≡ told_looked (non_witness_utxo file.now (held_input file.now pairs.now maps.now psbt i)) }
 {
@@ -19,7 +25,13 @@ pub fn non_witness_utxo(file: &[u8], pairs: &[u32], maps: &[u32], psbt: Psbt, i:
 }
 
 // The output that is spent, as its bytes; `get_witness_utxo` reads it.
-pub fn witness_utxo(file: &[u8], pairs: &[u32], maps: &[u32], psbt: Psbt, i: u64) -> Looked
+pub fn witness_utxo(
+    file: &[u8],
+    pairs: &[u32],
+    maps: &[u32],
+    psbt: Psbt,
+    i: u64,
+) -> Result<Option<Part>, PsbtError>
     ensures { told_looked result
         ≡ told_looked (witness_utxo_def file.now (held_input file.now pairs.now maps.now psbt i)) }
 {
@@ -27,7 +39,13 @@ pub fn witness_utxo(file: &[u8], pairs: &[u32], maps: &[u32], psbt: Psbt, i: u64
 }
 
 // The signature hash type.
-pub fn sighash_type(file: &[u8], pairs: &[u32], maps: &[u32], psbt: Psbt, i: u64) -> Numbered
+pub fn sighash_type(
+    file: &[u8],
+    pairs: &[u32],
+    maps: &[u32],
+    psbt: Psbt,
+    i: u64,
+) -> Result<Option<u64>, PsbtError>
     ensures { told_numbered result
         ≡ told_numbered (sighash_type file.now (held_input file.now pairs.now maps.now psbt i)) }
 {
@@ -35,7 +53,13 @@ pub fn sighash_type(file: &[u8], pairs: &[u32], maps: &[u32], psbt: Psbt, i: u64
 }
 
 // The redeem script.
-pub fn redeem_script(file: &[u8], pairs: &[u32], maps: &[u32], psbt: Psbt, i: u64) -> Looked
+pub fn redeem_script(
+    file: &[u8],
+    pairs: &[u32],
+    maps: &[u32],
+    psbt: Psbt,
+    i: u64,
+) -> Result<Option<Part>, PsbtError>
     ensures { told_looked result
         ≡ told_looked (redeem_script file.now (held_input file.now pairs.now maps.now psbt i)) }
 {
@@ -43,7 +67,13 @@ pub fn redeem_script(file: &[u8], pairs: &[u32], maps: &[u32], psbt: Psbt, i: u6
 }
 
 // The witness script.
-pub fn witness_script(file: &[u8], pairs: &[u32], maps: &[u32], psbt: Psbt, i: u64) -> Looked
+pub fn witness_script(
+    file: &[u8],
+    pairs: &[u32],
+    maps: &[u32],
+    psbt: Psbt,
+    i: u64,
+) -> Result<Option<Part>, PsbtError>
     ensures { told_looked result
         ≡ told_looked (witness_script file.now (held_input file.now pairs.now maps.now psbt i)) }
 {
@@ -51,7 +81,13 @@ pub fn witness_script(file: &[u8], pairs: &[u32], maps: &[u32], psbt: Psbt, i: u
 }
 
 // The final script.
-pub fn final_scriptsig(file: &[u8], pairs: &[u32], maps: &[u32], psbt: Psbt, i: u64) -> Looked
+pub fn final_scriptsig(
+    file: &[u8],
+    pairs: &[u32],
+    maps: &[u32],
+    psbt: Psbt,
+    i: u64,
+) -> Result<Option<Part>, PsbtError>
     ensures { told_looked result
         ≡ told_looked (final_scriptsig file.now (held_input file.now pairs.now maps.now psbt i)) }
 {
@@ -59,7 +95,13 @@ pub fn final_scriptsig(file: &[u8], pairs: &[u32], maps: &[u32], psbt: Psbt, i: 
 }
 
 // The final witness.
-pub fn final_scriptwitness(file: &[u8], pairs: &[u32], maps: &[u32], psbt: Psbt, i: u64) -> Looked
+pub fn final_scriptwitness(
+    file: &[u8],
+    pairs: &[u32],
+    maps: &[u32],
+    psbt: Psbt,
+    i: u64,
+) -> Result<Option<Part>, PsbtError>
     ensures { told_looked result
         ≡ told_looked (final_scriptwitness file.now (held_input file.now pairs.now maps.now psbt i)) }
 {
@@ -67,7 +109,13 @@ pub fn final_scriptwitness(file: &[u8], pairs: &[u32], maps: &[u32], psbt: Psbt,
 }
 
 // The txid of the previous transaction, 32 bytes.
-pub fn previous_txid(file: &[u8], pairs: &[u32], maps: &[u32], psbt: Psbt, i: u64) -> Looked
+pub fn previous_txid(
+    file: &[u8],
+    pairs: &[u32],
+    maps: &[u32],
+    psbt: Psbt,
+    i: u64,
+) -> Result<Option<Part>, PsbtError>
     ensures { told_looked result
         ≡ told_looked (previous_txid file.now (held_input file.now pairs.now maps.now psbt i)) }
 {
@@ -75,7 +123,13 @@ pub fn previous_txid(file: &[u8], pairs: &[u32], maps: &[u32], psbt: Psbt, i: u6
 }
 
 // Which of its outputs is spent.
-pub fn output_index(file: &[u8], pairs: &[u32], maps: &[u32], psbt: Psbt, i: u64) -> Numbered
+pub fn output_index(
+    file: &[u8],
+    pairs: &[u32],
+    maps: &[u32],
+    psbt: Psbt,
+    i: u64,
+) -> Result<Option<u64>, PsbtError>
     ensures { told_numbered result
         ≡ told_numbered (output_index file.now (held_input file.now pairs.now maps.now psbt i)) }
 {
@@ -83,7 +137,13 @@ pub fn output_index(file: &[u8], pairs: &[u32], maps: &[u32], psbt: Psbt, i: u64
 }
 
 // The sequence number.
-pub fn sequence(file: &[u8], pairs: &[u32], maps: &[u32], psbt: Psbt, i: u64) -> Numbered
+pub fn sequence(
+    file: &[u8],
+    pairs: &[u32],
+    maps: &[u32],
+    psbt: Psbt,
+    i: u64,
+) -> Result<Option<u64>, PsbtError>
     ensures { told_numbered result
         ≡ told_numbered (sequence file.now (held_input file.now pairs.now maps.now psbt i)) }
 {
@@ -97,7 +157,7 @@ pub fn required_time_locktime(
     maps: &[u32],
     psbt: Psbt,
     i: u64,
-) -> Numbered
+) -> Result<Option<u64>, PsbtError>
     ensures { told_numbered result
         ≡ told_numbered (required_time_locktime file.now (held_input file.now pairs.now maps.now psbt i)) }
 {
@@ -111,7 +171,7 @@ pub fn required_height_locktime(
     maps: &[u32],
     psbt: Psbt,
     i: u64,
-) -> Numbered
+) -> Result<Option<u64>, PsbtError>
     ensures { told_numbered result
         ≡ told_numbered (required_height_locktime file.now (held_input file.now pairs.now maps.now psbt i)) }
 {
@@ -119,7 +179,13 @@ pub fn required_height_locktime(
 }
 
 // The silent payment tweak, 32 bytes.
-pub fn sp_tweak(file: &[u8], pairs: &[u32], maps: &[u32], psbt: Psbt, i: u64) -> Looked
+pub fn sp_tweak(
+    file: &[u8],
+    pairs: &[u32],
+    maps: &[u32],
+    psbt: Psbt,
+    i: u64,
+) -> Result<Option<Part>, PsbtError>
     ensures { told_looked result ≡ told_looked (sp_tweak file.now (held_input file.now pairs.now maps.now psbt i)) }
 {
     typed::input::sp_tweak(file, pairs, maps, psbt, i)
@@ -133,7 +199,7 @@ pub fn iter_keys(
     psbt: Psbt,
     i: u64,
     key_type: u8,
-) -> Listing
+) -> Result<Listed, PsbtError>
     ensures { told_listing result
         ≡ told_listing (list file.now key_type (held_input file.now pairs.now maps.now psbt i)) }
 {
@@ -141,7 +207,13 @@ pub fn iter_keys(
 }
 
 // The pairs of derivations.
-pub fn bip32_derivations(file: &[u8], pairs: &[u32], maps: &[u32], psbt: Psbt, i: u64) -> Listing
+pub fn bip32_derivations(
+    file: &[u8],
+    pairs: &[u32],
+    maps: &[u32],
+    psbt: Psbt,
+    i: u64,
+) -> Result<Listed, PsbtError>
     ensures { told_listing result
         ≡ told_listing (list file.now 0x06 (held_input file.now pairs.now maps.now psbt i)) }
 {
@@ -156,7 +228,7 @@ pub fn get_sp_ecdh_share(
     psbt: Psbt,
     i: u64,
     scan_key: &[u8],
-) -> Looked
+) -> Result<Option<Part>, PsbtError>
     ensures { told_looked result
         ≡ told_looked (input_share file.now scan_key.now
         (held_input file.now pairs.now maps.now psbt i)) }
@@ -172,7 +244,7 @@ pub fn get_sp_dleq_proof(
     psbt: Psbt,
     i: u64,
     scan_key: &[u8],
-) -> Looked
+) -> Result<Option<Part>, PsbtError>
     ensures { told_looked result
         ≡ told_looked (input_proof file.now scan_key.now
         (held_input file.now pairs.now maps.now psbt i)) }
@@ -181,7 +253,13 @@ pub fn get_sp_dleq_proof(
 }
 
 // All shares.
-pub fn sp_ecdh_shares(file: &[u8], pairs: &[u32], maps: &[u32], psbt: Psbt, i: u64) -> Listing
+pub fn sp_ecdh_shares(
+    file: &[u8],
+    pairs: &[u32],
+    maps: &[u32],
+    psbt: Psbt,
+    i: u64,
+) -> Result<Listed, PsbtError>
     ensures { told_listing result
         ≡ told_listing (list file.now 0x1d (held_input file.now pairs.now maps.now psbt i)) }
 {
@@ -189,7 +267,13 @@ pub fn sp_ecdh_shares(file: &[u8], pairs: &[u32], maps: &[u32], psbt: Psbt, i: u
 }
 
 // All proofs.
-pub fn sp_dleq_proofs(file: &[u8], pairs: &[u32], maps: &[u32], psbt: Psbt, i: u64) -> Listing
+pub fn sp_dleq_proofs(
+    file: &[u8],
+    pairs: &[u32],
+    maps: &[u32],
+    psbt: Psbt,
+    i: u64,
+) -> Result<Listed, PsbtError>
     ensures { told_listing result
         ≡ told_listing (list file.now 0x1e (held_input file.now pairs.now maps.now psbt i)) }
 {
@@ -203,7 +287,7 @@ pub fn sp_spend_bip32_derivations(
     maps: &[u32],
     psbt: Psbt,
     i: u64,
-) -> Listing
+) -> Result<Listed, PsbtError>
     ensures { told_listing result
         ≡ told_listing (list file.now 0x1f (held_input file.now pairs.now maps.now psbt i)) }
 {
@@ -220,7 +304,7 @@ pub fn get_musig2_pub_nonce(
     participant: &[u8],
     aggregate: &[u8],
     leaf: &[u8],
-) -> Looked
+) -> Result<Option<Part>, PsbtError>
     ensures { told_looked result
         ≡ told_looked (pub_nonce file.now participant.now
         aggregate.now leaf.now (held_input file.now pairs.now maps.now psbt i)) }
@@ -238,7 +322,7 @@ pub fn get_musig2_partial_sig(
     participant: &[u8],
     aggregate: &[u8],
     leaf: &[u8],
-) -> Looked
+) -> Result<Option<Part>, PsbtError>
     ensures { told_looked result
         ≡ told_looked (partial_sig file.now participant.now
         aggregate.now leaf.now (held_input file.now pairs.now maps.now psbt i)) }
@@ -255,7 +339,7 @@ pub fn get_musig2_participant_pubkeys(
     i: u64,
     aggregate: &[u8],
     leaf: &[u8],
-) -> Looked
+) -> Result<Option<Part>, PsbtError>
     ensures { told_looked result
         ≡ told_looked (input_participants file.now
         aggregate.now leaf.now (held_input file.now pairs.now maps.now psbt i)) }
@@ -272,7 +356,7 @@ pub fn get_musig2_participant_count(
     i: u64,
     aggregate: &[u8],
     leaf: &[u8],
-) -> Numbered
+) -> Result<Option<u64>, PsbtError>
     ensures { told_numbered result
         ≡ told_numbered (participant_count (input_participants file.now
         aggregate.now leaf.now (held_input file.now pairs.now maps.now psbt i))) }
@@ -290,7 +374,7 @@ pub fn get_musig2_participant(
     aggregate: &[u8],
     leaf: &[u8],
     n: usize,
-) -> Looked
+) -> Result<Option<Part>, PsbtError>
     ensures { told_looked result
         ≡ told_looked (participant n (input_participants file.now
         aggregate.now leaf.now (held_input file.now pairs.now maps.now psbt i))) }
@@ -299,7 +383,13 @@ pub fn get_musig2_participant(
 }
 
 // The output that is spent: its amount, and where its script stands.
-pub fn get_witness_utxo(file: &[u8], pairs: &[u32], maps: &[u32], psbt: Psbt, i: u64) -> Utxo
+pub fn get_witness_utxo(
+    file: &[u8],
+    pairs: &[u32],
+    maps: &[u32],
+    psbt: Psbt,
+    i: u64,
+) -> Result<Option<WitnessUtxo>, PsbtError>
     ensures { told_utxo result
         ≡ told_utxo (get_witness_utxo file.now (held_input file.now pairs.now maps.now psbt i)) }
 {

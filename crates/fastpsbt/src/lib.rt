@@ -13,7 +13,7 @@ ghost use Rattle.format.specs.Tables.{view};
 ghost use Rattle.format.specs.Told.{told_left, told_lock, told_parse, told_parsed, told_set, told_set_out, told_tx, told_tx_out, told_with};
 ghost use Rattle.format.specs.Transaction.{lock_decided, unsigned_tx_def};
 
-use format::{Lock, Looked, Parsed, Psbt, ScriptsSet, State, UnsignedTx};
+use format::{Lock, Parsed, Part, Psbt, PsbtError, State, Written};
 
 pub mod global;
 pub mod input;
@@ -30,7 +30,7 @@ pub fn parse(file: &[u8], pairs: &mut [u32], maps: &mut [u32]) -> Parsed
 }
 
 // The part of the file that a lookup's answer names: empty for absence and refusal.
-pub fn part_of(file: &[u8], looked: Looked) -> &[u8]
+pub fn part_of(file: &[u8], looked: Result<Option<Part>, PsbtError>) -> &[u8]
     ensures { result.now ≡ part file.now looked }
 {
     lookup::part_of(file, looked)
@@ -38,7 +38,7 @@ pub fn part_of(file: &[u8], looked: Looked) -> &[u8]
 
 // What decides the lock time: the greatest height or time and the input that asks for it, the fallback, or the rule that refuses and
 // the input at fault.
-pub fn lock_decided(file: &[u8], pairs: &[u32], maps: &[u32], psbt: Psbt) -> Lock
+pub fn lock_decided(file: &[u8], pairs: &[u32], maps: &[u32], psbt: Psbt) -> Result<Lock, PsbtError>
     ensures { told_lock result ≡ told_lock (lock_decided (view file.now pairs.now maps.now psbt) psbt) }
 {
     lock::lock_decided(file, pairs, maps, psbt)
@@ -55,7 +55,7 @@ pub fn set_sp_output_scripts(
     buffer: &[u8],
     state: State,
     scripts: &mut [u8],
-) -> ScriptsSet
+) -> Result<State, PsbtError>
     ensures { told_left (told_set result) scripts.new
         ≡ told_set_out (set_scripts (view file.now pairs.now maps.now psbt) psbt
         (flat list.now) buffer.now state scripts.old) }
@@ -73,7 +73,7 @@ pub fn unsigned_tx(
     state: State,
     scripts: &[u8],
     out: &mut [u8],
-) -> UnsignedTx
+) -> Result<Written, PsbtError>
     ensures { told_left (told_tx result) out.new
         ≡ told_tx_out (unsigned_tx_def (view file.now pairs.now maps.now psbt) psbt state
         scripts.now out.old) }

@@ -4,7 +4,7 @@ ghost use Rattle.format.specs.Lookups.{key_part, list, look, nth, part, value_pa
 ghost use Rattle.format.specs.Tables.{held};
 ghost use Rattle.format.specs.Told.{told_listing, told_looked, told_nth};
 
-use format::{Listing, Looked, Nth, Psbt};
+use format::{Listed, PairEntry, Part, Psbt, PsbtError};
 
 // Where the value of a key stands, by the key's type and data.
 pub fn get(
@@ -15,7 +15,7 @@ pub fn get(
     m: u64,
     key_type: u8,
     key_data: &[u8],
-) -> Looked
+) -> Result<Option<Part>, PsbtError>
     ensures { told_looked result
         ≡ told_looked (look file.now key_type
         key_data.now (held file.now pairs.now maps.now psbt m)) }
@@ -41,7 +41,14 @@ pub fn get_part<'a>(
 }
 
 // The pairs of a type: the first one's number in the map, or where it would stand, and how many they are.
-pub fn list(file: &[u8], pairs: &[u32], maps: &[u32], psbt: Psbt, m: u64, key_type: u8) -> Listing
+pub fn list(
+    file: &[u8],
+    pairs: &[u32],
+    maps: &[u32],
+    psbt: Psbt,
+    m: u64,
+    key_type: u8,
+) -> Result<Listed, PsbtError>
     ensures { told_listing result
         ≡ told_listing (list file.now key_type (held file.now pairs.now maps.now psbt m)) }
 {
@@ -49,7 +56,14 @@ pub fn list(file: &[u8], pairs: &[u32], maps: &[u32], psbt: Psbt, m: u64, key_ty
 }
 
 // Pair number `i` of a map: where its key and its value stand.
-pub fn nth(file: &[u8], pairs: &[u32], maps: &[u32], psbt: Psbt, m: u64, i: usize) -> Nth
+pub fn nth(
+    file: &[u8],
+    pairs: &[u32],
+    maps: &[u32],
+    psbt: Psbt,
+    m: u64,
+    i: usize,
+) -> Result<PairEntry, PsbtError>
     ensures { told_nth result ≡ told_nth (nth i (held file.now pairs.now maps.now psbt m)) }
 {
     lookup::nth(file, pairs, maps, psbt, m, i)

@@ -7,10 +7,16 @@ ghost use Rattle.format.specs.Tables.{held_output};
 ghost use Rattle.format.specs.Told.{told_listing, told_looked, told_numbered, told_script};
 ghost use Rattle.format.specs.Transaction.{output_script_def, script_part};
 
-use format::{Listing, Looked, Numbered, OutputScript, Psbt, State};
+use format::{Listed, Part, Psbt, PsbtError, ScriptPlace, State};
 
 // The redeem script.
-pub fn redeem_script(file: &[u8], pairs: &[u32], maps: &[u32], psbt: Psbt, i: u64) -> Looked
+pub fn redeem_script(
+    file: &[u8],
+    pairs: &[u32],
+    maps: &[u32],
+    psbt: Psbt,
+    i: u64,
+) -> Result<Option<Part>, PsbtError>
     ensures { told_looked result
         ≡ told_looked (out_redeem_script file.now (held_output file.now pairs.now maps.now psbt i)) }
 {
@@ -18,7 +24,13 @@ pub fn redeem_script(file: &[u8], pairs: &[u32], maps: &[u32], psbt: Psbt, i: u6
 }
 
 // The witness script.
-pub fn witness_script(file: &[u8], pairs: &[u32], maps: &[u32], psbt: Psbt, i: u64) -> Looked
+pub fn witness_script(
+    file: &[u8],
+    pairs: &[u32],
+    maps: &[u32],
+    psbt: Psbt,
+    i: u64,
+) -> Result<Option<Part>, PsbtError>
     ensures { told_looked result
         ≡ told_looked (out_witness_script file.now (held_output file.now pairs.now maps.now psbt i)) }
 {
@@ -26,7 +38,13 @@ pub fn witness_script(file: &[u8], pairs: &[u32], maps: &[u32], psbt: Psbt, i: u
 }
 
 // The amount.
-pub fn amount(file: &[u8], pairs: &[u32], maps: &[u32], psbt: Psbt, i: u64) -> Numbered
+pub fn amount(
+    file: &[u8],
+    pairs: &[u32],
+    maps: &[u32],
+    psbt: Psbt,
+    i: u64,
+) -> Result<Option<u64>, PsbtError>
     ensures { told_numbered result
         ≡ told_numbered (amount file.now (held_output file.now pairs.now maps.now psbt i)) }
 {
@@ -34,14 +52,26 @@ pub fn amount(file: &[u8], pairs: &[u32], maps: &[u32], psbt: Psbt, i: u64) -> N
 }
 
 // The script.
-pub fn script(file: &[u8], pairs: &[u32], maps: &[u32], psbt: Psbt, i: u64) -> Looked
+pub fn script(
+    file: &[u8],
+    pairs: &[u32],
+    maps: &[u32],
+    psbt: Psbt,
+    i: u64,
+) -> Result<Option<Part>, PsbtError>
     ensures { told_looked result ≡ told_looked (script file.now (held_output file.now pairs.now maps.now psbt i)) }
 {
     typed::output::script(file, pairs, maps, psbt, i)
 }
 
 // The silent payment code, 66 bytes.
-pub fn sp_v0_info(file: &[u8], pairs: &[u32], maps: &[u32], psbt: Psbt, i: u64) -> Looked
+pub fn sp_v0_info(
+    file: &[u8],
+    pairs: &[u32],
+    maps: &[u32],
+    psbt: Psbt,
+    i: u64,
+) -> Result<Option<Part>, PsbtError>
     ensures { told_looked result
         ≡ told_looked (sp_v0_info file.now (held_output file.now pairs.now maps.now psbt i)) }
 {
@@ -49,7 +79,13 @@ pub fn sp_v0_info(file: &[u8], pairs: &[u32], maps: &[u32], psbt: Psbt, i: u64) 
 }
 
 // Its label.
-pub fn sp_v0_label(file: &[u8], pairs: &[u32], maps: &[u32], psbt: Psbt, i: u64) -> Numbered
+pub fn sp_v0_label(
+    file: &[u8],
+    pairs: &[u32],
+    maps: &[u32],
+    psbt: Psbt,
+    i: u64,
+) -> Result<Option<u64>, PsbtError>
     ensures { told_numbered result
         ≡ told_numbered (sp_v0_label file.now (held_output file.now pairs.now maps.now psbt i)) }
 {
@@ -64,7 +100,7 @@ pub fn iter_keys(
     psbt: Psbt,
     i: u64,
     key_type: u8,
-) -> Listing
+) -> Result<Listed, PsbtError>
     ensures { told_listing result
         ≡ told_listing (list file.now key_type (held_output file.now pairs.now maps.now psbt i)) }
 {
@@ -72,7 +108,13 @@ pub fn iter_keys(
 }
 
 // The pairs of derivations.
-pub fn bip32_derivations(file: &[u8], pairs: &[u32], maps: &[u32], psbt: Psbt, i: u64) -> Listing
+pub fn bip32_derivations(
+    file: &[u8],
+    pairs: &[u32],
+    maps: &[u32],
+    psbt: Psbt,
+    i: u64,
+) -> Result<Listed, PsbtError>
     ensures { told_listing result
         ≡ told_listing (list file.now 0x02 (held_output file.now pairs.now maps.now psbt i)) }
 {
@@ -87,7 +129,7 @@ pub fn get_musig2_participant_pubkeys(
     psbt: Psbt,
     i: u64,
     aggregate: &[u8],
-) -> Looked
+) -> Result<Option<Part>, PsbtError>
     ensures { told_looked result
         ≡ told_looked (output_participants file.now
         aggregate.now (held_output file.now pairs.now maps.now psbt i)) }
@@ -103,7 +145,7 @@ pub fn get_musig2_participant_count(
     psbt: Psbt,
     i: u64,
     aggregate: &[u8],
-) -> Numbered
+) -> Result<Option<u64>, PsbtError>
     ensures { told_numbered result
         ≡ told_numbered (participant_count (output_participants file.now
         aggregate.now (held_output file.now pairs.now maps.now psbt i))) }
@@ -120,7 +162,7 @@ pub fn get_musig2_participant(
     i: u64,
     aggregate: &[u8],
     n: usize,
-) -> Looked
+) -> Result<Option<Part>, PsbtError>
     ensures { told_looked result
         ≡ told_looked (participant n (output_participants file.now
         aggregate.now (held_output file.now pairs.now maps.now psbt i))) }
@@ -137,7 +179,7 @@ pub fn output_script(
     state: State,
     scripts: &[u8],
     i: u64,
-) -> OutputScript
+) -> Result<Option<ScriptPlace>, PsbtError>
     ensures { told_script result
         ≡ told_script (output_script_def file.now state
         scripts.now i (held_output file.now pairs.now maps.now psbt i)) }

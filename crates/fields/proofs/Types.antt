@@ -10,9 +10,9 @@ use lib.Dec.{eqb}
 use lib.ListN.{length, get_or, drop, drop_of_length-le}
 use lib.Seq.{drop-cons}
 use Rattle.format.specs.Tests.{pick}
-use Rattle.format.specs.Rules.{is_row, sizes_in}
+use Rattle.format.specs.Rules.{kind_of, is_row, sizes_in}
 use Rattle.format.specs.declared.SizedType.{SizedType}
-use Rattle.format.specs.declared.Ruled.TheVariants.{Passed}
+use Rattle.format.specs.Answers.{passed}
 use Rattle.format.proofs.Tests.{pick_no}
 use Rattle.fields.specs.Rows.{has_type}
 use Rattle.fields.proofs.Rows.{none}
@@ -20,9 +20,6 @@ use Rattle.fields.proofs.Rows.{none}
 -- the rows from one on have the type where all have it
 abbrev pub TypeFrom : List SizedType → ℕ → ℕ → Type 0
 TypeFrom rs t i = has_type (drop i rs) t ≡ has_type rs t
-
-pub type_first : (rs : List SizedType) (t : ℕ) → TypeFrom rs t 0
-type_first rs t = refl
 
 module _ (rs : List SizedType) (t i : ℕ) (on : TypeFrom rs t i) where
   pub type_found : i < length rs → (get_or rs i none).tag ≡ t → true ≡ has_type rs t
@@ -37,29 +34,29 @@ module _ (rs : List SizedType) (t i : ℕ) (on : TypeFrom rs t i) where
   unfolding has_type
   type_none z e h = let w : length rs ≤ i = omega arith in rw (drop_of_length-le rs w) at on
 
-pub ruleset types = (type_first, type_found, type_passed, type_none)
+pub ruleset types = (type_found, type_passed, type_none)
 
 -- another type's row is not about this one
 other_row : (r : SizedType) (k t : ℕ) → eqb r.tag t ≡ false → is_row r k t ≡ false
 unfolding is_row
-other_row r k t q = rw q (by (eqb r.kind k))
+other_row r k t q = rw q (by (eqb (kind_of r.kind) k))
   where
     by : (x : Bool) → (x && false) ≡ false
     by true = refl
     by false = refl
 
-untyped : (rs : List SizedType) (k t n m : ℕ) → has_type rs t ≡ false → sizes_in rs k t n m ≡ Passed
+untyped : (rs : List SizedType) (k t n m : ℕ) → has_type rs t ≡ false → sizes_in rs k t n m ≡ passed
 unfolding has_type sizes_in
 untyped [] k t n m e = refl
 untyped (r ∷ rs) k t n m e = by (eqb r.tag t) refl e (λ h. untyped rs k t n m h)
   where
     by : (x : Bool) → eqb r.tag t ≡ x → pick x true (has_type rs t) ≡ false
-        → (has_type rs t ≡ false → sizes_in rs k t n m ≡ Passed) → sizes_in (r ∷ rs) k t n m ≡ Passed
+        → (has_type rs t ≡ false → sizes_in rs k t n m ≡ passed) → sizes_in (r ∷ rs) k t n m ≡ passed
     by true q h go = let z : ◌≡◌ {A = ℕ} 0 1 = cc in absurd (omega arith)
     by false q h go = pick_no _ _ _ (other_row r k t q) ∙ go h
 
 -- a type with no row is free
-pub type_free : (rs : List SizedType) (k t n m : ℕ) (b : Bool) → b ≡ has_type rs t → b ≡ false → Passed ≡ sizes_in rs k t n m
+pub type_free : (rs : List SizedType) (k t n m : ℕ) (b : Bool) → b ≡ has_type rs t → b ≡ false → passed ≡ sizes_in rs k t n m
 type_free rs k t n m b e q = sym (untyped rs k t n m (sym e ∙ q))
 
 pub ruleset free_types = (type_free)

@@ -3,19 +3,19 @@
 
 ghost use Rattle.std.specs.Prelude.{◌≡◌};
 ghost use Rattle.format.specs.Compact.{size, count_by_def};
-ghost use Rattle.format.specs.Rules.{value_fits, is_row, row_rule, sizes_in, sizes, count_rule};
+ghost use Rattle.format.specs.Rules.{kind_of, value_fits, is_row, row_rule, sizes_in, sizes, count_rule};
 ghost use Rattle.fields.specs.Rows.{is_kept, both_fit, has_type};
 ghost use Rattle.fields.specs.Fronts.{is_count, bare_rule_by, is_bare, rule_by};
 
 use format::{
-    GLOBAL, INPUT, OUTPUT, PSBT_GLOBAL_FALLBACK_LOCKTIME, PSBT_GLOBAL_INPUT_COUNT,
+    CompactSize, MapKind, PSBT_GLOBAL_FALLBACK_LOCKTIME, PSBT_GLOBAL_INPUT_COUNT,
     PSBT_GLOBAL_OUTPUT_COUNT, PSBT_GLOBAL_SP_DLEQ, PSBT_GLOBAL_SP_ECDH_SHARE,
     PSBT_GLOBAL_TX_MODIFIABLE, PSBT_GLOBAL_TX_VERSION, PSBT_GLOBAL_UNSIGNED_TX,
     PSBT_GLOBAL_VERSION, PSBT_IN_OUTPUT_INDEX, PSBT_IN_PREVIOUS_TXID,
     PSBT_IN_REQUIRED_HEIGHT_LOCKTIME, PSBT_IN_REQUIRED_TIME_LOCKTIME, PSBT_IN_SEQUENCE,
     PSBT_IN_SIGHASH_TYPE, PSBT_IN_SP_DLEQ, PSBT_IN_SP_ECDH_SHARE,
     PSBT_IN_SP_SPEND_BIP32_DERIVATION, PSBT_IN_SP_TWEAK, PSBT_OUT_AMOUNT, PSBT_OUT_SP_V0_INFO,
-    PSBT_OUT_SP_V0_LABEL, PsbtError, Ruled, Size, SizedType,
+    PSBT_OUT_SP_V0_LABEL, PsbtError, SizedType,
 };
 
 // The value length of a row that marks a key origin.
@@ -25,133 +25,133 @@ const ORIGIN: u8 = 0;
 // asked only of keys without data.
 const SIZED_TYPES: [SizedType; 19] = [
     SizedType {
-        kind: GLOBAL,
+        kind: MapKind::Global,
         tag: PSBT_GLOBAL_SP_ECDH_SHARE,
         dlen: 33,
         vlen: 33,
         bare: false,
     },
     SizedType {
-        kind: GLOBAL,
+        kind: MapKind::Global,
         tag: PSBT_GLOBAL_SP_DLEQ,
         dlen: 33,
         vlen: 64,
         bare: false,
     },
     SizedType {
-        kind: INPUT,
+        kind: MapKind::Input,
         tag: PSBT_IN_SP_ECDH_SHARE,
         dlen: 33,
         vlen: 33,
         bare: false,
     },
     SizedType {
-        kind: INPUT,
+        kind: MapKind::Input,
         tag: PSBT_IN_SP_DLEQ,
         dlen: 33,
         vlen: 64,
         bare: false,
     },
     SizedType {
-        kind: INPUT,
+        kind: MapKind::Input,
         tag: PSBT_IN_SP_TWEAK,
         dlen: 0,
         vlen: 32,
         bare: false,
     },
     SizedType {
-        kind: INPUT,
+        kind: MapKind::Input,
         tag: PSBT_IN_SP_SPEND_BIP32_DERIVATION,
         dlen: 33,
         vlen: ORIGIN,
         bare: false,
     },
     SizedType {
-        kind: OUTPUT,
+        kind: MapKind::Output,
         tag: PSBT_OUT_SP_V0_INFO,
         dlen: 0,
         vlen: 66,
         bare: false,
     },
     SizedType {
-        kind: OUTPUT,
+        kind: MapKind::Output,
         tag: PSBT_OUT_SP_V0_LABEL,
         dlen: 0,
         vlen: 4,
         bare: false,
     },
     SizedType {
-        kind: GLOBAL,
+        kind: MapKind::Global,
         tag: PSBT_GLOBAL_TX_VERSION,
         dlen: 0,
         vlen: 4,
         bare: true,
     },
     SizedType {
-        kind: GLOBAL,
+        kind: MapKind::Global,
         tag: PSBT_GLOBAL_FALLBACK_LOCKTIME,
         dlen: 0,
         vlen: 4,
         bare: true,
     },
     SizedType {
-        kind: GLOBAL,
+        kind: MapKind::Global,
         tag: PSBT_GLOBAL_VERSION,
         dlen: 0,
         vlen: 4,
         bare: true,
     },
     SizedType {
-        kind: GLOBAL,
+        kind: MapKind::Global,
         tag: PSBT_GLOBAL_TX_MODIFIABLE,
         dlen: 0,
         vlen: 1,
         bare: true,
     },
     SizedType {
-        kind: INPUT,
+        kind: MapKind::Input,
         tag: PSBT_IN_SIGHASH_TYPE,
         dlen: 0,
         vlen: 4,
         bare: true,
     },
     SizedType {
-        kind: INPUT,
+        kind: MapKind::Input,
         tag: PSBT_IN_OUTPUT_INDEX,
         dlen: 0,
         vlen: 4,
         bare: true,
     },
     SizedType {
-        kind: INPUT,
+        kind: MapKind::Input,
         tag: PSBT_IN_SEQUENCE,
         dlen: 0,
         vlen: 4,
         bare: true,
     },
     SizedType {
-        kind: INPUT,
+        kind: MapKind::Input,
         tag: PSBT_IN_REQUIRED_TIME_LOCKTIME,
         dlen: 0,
         vlen: 4,
         bare: true,
     },
     SizedType {
-        kind: INPUT,
+        kind: MapKind::Input,
         tag: PSBT_IN_REQUIRED_HEIGHT_LOCKTIME,
         dlen: 0,
         vlen: 4,
         bare: true,
     },
     SizedType {
-        kind: INPUT,
+        kind: MapKind::Input,
         tag: PSBT_IN_PREVIOUS_TXID,
         dlen: 0,
         vlen: 32,
         bare: true,
     },
     SizedType {
-        kind: OUTPUT,
+        kind: MapKind::Output,
         tag: PSBT_OUT_AMOUNT,
         dlen: 0,
         vlen: 8,
@@ -160,8 +160,8 @@ const SIZED_TYPES: [SizedType; 19] = [
 ];
 
 // A row is about this type in maps of this kind.
-fn is_row(row: SizedType, kind: u8, key_type: u8) -> bool
-    ensures { result ≡ is_row row kind key_type }
+fn is_row(row: SizedType, kind: MapKind, key_type: u8) -> bool
+    ensures { result ≡ is_row row (kind_of kind) key_type }
 {
     row.kind == kind && row.tag == key_type
 }
@@ -191,63 +191,62 @@ fn both_fit(row: SizedType, key_data_len: usize, value_len: usize) -> bool
 }
 
 // What a row says of a pair's lengths.
-fn row_rule(row: SizedType, key_data_len: usize, value_len: usize) -> Ruled
+fn row_rule(row: SizedType, key_data_len: usize, value_len: usize) -> Result<(), PsbtError>
     ensures { result ≡ row_rule row key_data_len value_len }
 {
     if is_kept(row, key_data_len) {
-        return Ruled::Passed;
+        return Ok(());
     }
     if both_fit(row, key_data_len, value_len) {
-        Ruled::Passed
+        Ok(())
     } else {
-        Ruled::Refused(PsbtError::BadValue)
+        Err(PsbtError::BadValue)
     }
 }
 
 // What rows say of a pair's lengths: the first that is about its type decides.
 fn sizes_in(
     rows: [SizedType; 19],
-    kind: u8,
+    kind: MapKind,
     key_type: u8,
     key_data_len: usize,
     value_len: usize,
-) -> Ruled
-    ensures { result ≡ sizes_in rows kind key_type key_data_len value_len }
+) -> Result<(), PsbtError>
+    ensures { result ≡ sizes_in rows (kind_of kind) key_type key_data_len value_len }
 {
-    let mut i: usize = 0;
-    while i < rows.len() {
-        let row = rows[i];
+    for row in rows {
         if is_row(row, kind, key_type) {
             return row_rule(row, key_data_len, value_len);
         }
-        i = i + 1;
     }
-    Ruled::Passed
+    Ok(())
 }
 
 // Some row is about this type, in maps of whatever kind.
 fn has_type(rows: [SizedType; 19], key_type: u8) -> bool
     ensures { result ≡ has_type rows key_type }
 {
-    let mut i: usize = 0;
-    while i < rows.len() {
-        let row = rows[i];
+    for row in rows {
         if row.tag == key_type {
             return true;
         }
-        i = i + 1;
     }
     false
 }
 
 // What the table says of a pair's lengths. A type with no row is free, and is told by the types alone.
-pub fn check_sizes(kind: u8, key_type: u8, key_data_len: usize, value_len: usize) -> Ruled
-    ensures { result ≡ sizes kind key_type key_data_len value_len }
+pub fn check_sizes(
+    kind: MapKind,
+    key_type: u8,
+    key_data_len: usize,
+    value_len: usize,
+) -> Result<(), PsbtError>
+    ensures { result ≡ sizes (kind_of kind) key_type key_data_len value_len }
 {
     if has_type(SIZED_TYPES, key_type) {
         sizes_in(SIZED_TYPES, kind, key_type, key_data_len, value_len)
     } else {
-        Ruled::Passed
+        Ok(())
     }
 }
 
@@ -259,54 +258,48 @@ fn is_count(key_type: u8) -> bool
 }
 
 // What is asked of a count field's value.
-fn count_rule(value_len: usize, front: &[u8]) -> Ruled
+fn count_rule(value_len: usize, front: &[u8]) -> Result<(), PsbtError>
     ensures { result ≡ count_rule (count_by_def value_len (size front.now)) }
 {
-    match wire::count_of(value_len, front) {
-        Size::Bad(e) => Ruled::Refused(e),
-        Size::Read { value: _, used: _ } => Ruled::Passed,
-    }
+    wire::count_of(value_len, front)?;
+    Ok(())
 }
 
 // What is asked of a global key without data besides sizes.
-fn bare_rule(key_type: u8, value_len: usize, front: &[u8]) -> Ruled
+fn bare_rule(key_type: u8, value_len: usize, front: &[u8]) -> Result<(), PsbtError>
     ensures { result ≡ bare_rule_by key_type value_len front.now }
 {
     if key_type == PSBT_GLOBAL_UNSIGNED_TX {
-        return Ruled::Refused(PsbtError::NotAllowed);
+        return Err(PsbtError::NotAllowed);
     }
     if is_count(key_type) {
         count_rule(value_len, front)
     } else {
-        Ruled::Passed
+        Ok(())
     }
 }
 
 // A global key without data.
-fn is_bare(kind: u8, key_data_len: usize) -> bool
-    ensures { result ≡ is_bare kind key_data_len }
+fn is_bare(kind: MapKind, key_data_len: usize) -> bool
+    ensures { result ≡ is_bare (kind_of kind) key_data_len }
 {
-    kind == GLOBAL && key_data_len == 0
+    kind == MapKind::Global && key_data_len == 0
 }
 
 // The field rule of a pair, by its lengths and its value's first nine bytes, or more of them.
 pub fn field_rule(
-    kind: u8,
+    kind: MapKind,
     key_type: u8,
     key_data_len: usize,
     value_len: usize,
     front: &[u8],
-) -> Ruled
-    ensures { result ≡ rule_by kind key_type key_data_len value_len front.now }
+) -> Result<(), PsbtError>
+    ensures { result ≡ rule_by (kind_of kind) key_type key_data_len value_len front.now }
 {
-    match check_sizes(kind, key_type, key_data_len, value_len) {
-        Ruled::Refused(e) => Ruled::Refused(e),
-        Ruled::Passed => {
-            if is_bare(kind, key_data_len) {
-                bare_rule(key_type, value_len, front)
-            } else {
-                Ruled::Passed
-            }
-        }
+    check_sizes(kind, key_type, key_data_len, value_len)?;
+    if is_bare(kind, key_data_len) {
+        bare_rule(key_type, value_len, front)
+    } else {
+        Ok(())
     }
 }

@@ -9,7 +9,7 @@ use lib.Dec.{leb, ltb}
 use lib.ListN.{length, drop, drop_of_length-le}
 use Rattle.format.specs.Tests.{pick}
 use Rattle.format.specs.Entries.{pair_entries, map_entries}
-use Rattle.format.specs.Tables.{fit, fitted, held_by_def, maps_reported, held, held_input, held_output}
+use Rattle.format.specs.Tables.{Held, no, holds, fit, fitted, held_by_def, maps_reported, held, held_input, held_output}
 use Rattle.format.specs.declared.PsbtError.{PsbtError}
 use Rattle.format.specs.declared.PsbtError.TheVariants.{OutOfRange, BadIndex}
 use Rattle.format.specs.declared.MapEntry.{MapEntry}
@@ -17,21 +17,20 @@ use Rattle.format.specs.declared.Psbt.{Psbt}
 use Rattle.format.proofs.Tests.{pick_by, pick_ap}
 use Rattle.entries.specs.Words.{pair_count, map_count, map_at}
 use Rattle.entries.proofs.Tables.{map_count_lem, map_here}
-use Rattle.fitness.specs.Fits.{run, entries_of, held_of, fit_entry, fit_by, not_listed, fit_at, fit_input, fit_output, Within, Sound}
-use Rattle.fitness.specs.declared.Fit.{Fit}
-use Rattle.fitness.specs.declared.Fit.TheVariants.{Refused, Is}
+use Rattle.fitness.specs.Fits.{run, entries_of, held_of, fit_entry, fit_by, not_listed, fit_at, fit_input, fit_output, Within, Sound, Fit}
+use Rattle.std.specs.Prelude.{Ok, Err}
 
 -- a map's entry, by what was tested of it
 module _ (f P : List ℕ) (m : MapEntry) (n : ℕ) (is : n ≡ pair_count P) where
-  too_far : pair_count P < m.first + m.count → Refused BadIndex ≡ fit_entry f P m
+  too_far : pair_count P < m.first + m.count → Err BadIndex ≡ fit_entry f P m
   unfolding fit_entry
   too_far h = sym (rw (lt-leb (m.first + m.count) (pair_count P) h))
 
-  pub first_far : n < m.first → Refused BadIndex ≡ fit_entry f P m
+  pub first_far : n < m.first → Err BadIndex ≡ fit_entry f P m
   first_far h = too_far (omega arith)
 
   module _ (a : m.first ≤ n) where
-    pub end_far : n - m.first < m.count → Refused BadIndex ≡ fit_entry f P m
+    pub end_far : n - m.first < m.count → Err BadIndex ≡ fit_entry f P m
     end_far h = too_far (omega arith)
 
     module _ (b : m.count ≤ n - m.first) where
@@ -39,14 +38,14 @@ module _ (f P : List ℕ) (m : MapEntry) (n : ℕ) (is : n ≡ pair_count P) whe
       named_in = omega arith
 
       module _ (r : Bool) (e : r ≡ fit f [] (entries_of P m)) where
-        named : fit_entry f P m ≡ pick r (Is m) (Refused BadIndex)
+        named : fit_entry f P m ≡ pick r (Ok m) (Err BadIndex)
         unfolding fit_entry
         named = rw (le-leb (m.first + m.count) (pair_count P) named_in, ← e)
 
-        pub named_fit : r ≡ true → Is m ≡ fit_entry f P m
+        pub named_fit : r ≡ true → Ok m ≡ fit_entry f P m
         named_fit q = sym (named ∙ rw q)
 
-        pub named_unfit : r ≡ false → Refused BadIndex ≡ fit_entry f P m
+        pub named_unfit : r ≡ false → Err BadIndex ≡ fit_entry f P m
         named_unfit q = sym (named ∙ rw q)
 
 pub ruleset named_entries = (first_far, end_far, named_in, named_fit, named_unfit)
@@ -69,7 +68,7 @@ pub ruleset reported = (reported_low, reported_high)
 
 -- map number m
 module _ (f P M : List ℕ) (s : Psbt) (m : ℕ) (b : Bool) (is : b ≡ ltb m (maps_reported s)) where
-  pub map_unreported : b ≡ false → Refused OutOfRange ≡ fit_at f P M s m
+  pub map_unreported : b ≡ false → Err OutOfRange ≡ fit_at f P M s m
   unfolding fit_at
   map_unreported q = sym (rw (sym is ∙ q))
 
@@ -86,7 +85,7 @@ pub ruleset map_numbers = (map_unreported, map_missing, map_there)
 
 -- input number i, and output number i: a sum that does not fit names no entry
 module _ (f P M : List ℕ) (s : Psbt) (i : ℕ) where
-  pub input_far : s.inputs ≤ i → Refused OutOfRange ≡ fit_input f P M s i
+  pub input_far : s.inputs ≤ i → Err OutOfRange ≡ fit_input f P M s i
   unfolding fit_input
   input_far h = sym (rw (le-ltb i s.inputs h))
 
@@ -94,7 +93,7 @@ module _ (f P M : List ℕ) (s : Psbt) (i : ℕ) where
   unfolding fit_input
   input_near h r e = e ∙ sym (rw (lt-ltb i s.inputs h))
 
-  pub output_far : s.outputs ≤ i → Refused OutOfRange ≡ fit_output f P M s i
+  pub output_far : s.outputs ≤ i → Err OutOfRange ≡ fit_output f P M s i
   unfolding fit_output
   output_far h = sym (rw (le-ltb i s.outputs h))
 
@@ -103,12 +102,12 @@ module _ (f P M : List ℕ) (s : Psbt) (i : ℕ) where
     unfolding fit_output
     output_near r e = e ∙ sym (rw (lt-ltb i s.outputs h))
 
-    pub output_missing : 18446744073709551615 - s.inputs ≤ i → length M < 2 ^ 64 → Refused BadIndex ≡ fit_output f P M s i
+    pub output_missing : 18446744073709551615 - s.inputs ≤ i → length M < 2 ^ 64 → Err BadIndex ≡ fit_output f P M s i
     unfolding maps_reported not_listed
     output_missing g l =
-        output_near (Refused BadIndex)
+        output_near (Err BadIndex)
         (map_missing f P M s (1 + (s.inputs + i)) true (sym (lt-ltb (1 + (s.inputs + i)) (1 + (s.inputs + s.outputs)) (omega arith))) (map_count M) refl
-        (omega (arith, map_count_lem M)) (Refused BadIndex) refl)
+        (omega (arith, map_count_lem M)) (Err BadIndex) refl)
 
 pub ruleset by_numbers = (input_far, input_near, output_far, output_near, output_missing)
 
@@ -118,14 +117,14 @@ unfolding fit_by fit_entry held_of held_by_def fitted entries_of run pair_count
 held_by f P [] = refl
 held_by f P (m ∷ ms) =
     pick_ap (held_of P) (leb (m.first + m.count) (pair_count P)) _ _
-    ∙ rw (pick_ap (held_of P) (fit f [] (entries_of P m)) (Is m) (Refused BadIndex))
+    ∙ rw (pick_ap (held_of P) (fit f [] (entries_of P m)) (Ok m) (Err BadIndex))
 
 held_at : (f P M : List ℕ) (s : Psbt) (m : ℕ) → held_of P (fit_at f P M s m) ≡ held f P M s m
 unfolding fit_at held_of held
 held_at f P M s m = pick_ap (held_of P) (ltb m (maps_reported s)) _ _ ∙ rw (held_by f P (drop m (map_entries M)))
 
 -- the pairs that it names are in the table, and fit
-refusal_sound : (f P : List ℕ) (e : PsbtError) → Sound f P (Refused e)
+refusal_sound : (f P : List ℕ) (e : PsbtError) → Sound f P (Err e)
 refusal_sound f P e =
     record {
       within = record { inside = λ m q. let z : ◌≡◌ {A = ℕ} 0 1 = cc in absurd (omega arith) };
@@ -187,7 +186,17 @@ module _ (f P M : List ℕ) (s : Psbt) (m : ℕ) (r : Fit) where
   pub output_within : r ≡ fit_output f P M s m → Within P r
   output_within e = (output_sound e).within
 
-pub within_is : (P : List ℕ) (r : Fit) (m : MapEntry) → Within P r → r ≡ Is m → m.first + m.count ≤ pair_count P
+-- the map that an entry names, or the refusal, is the asked map
+module _ (P : List ℕ) (r : Fit) (h : Held) (q : held_of P r ≡ h) where
+  pub held_ok : (m : MapEntry) → r ≡ Ok m → holds (entries_of P m) ≡ h
+  unfolding held_of
+  held_ok m e = sym (ap (held_of P) e) ∙ q
+
+  pub held_err : (e : PsbtError) → r ≡ Err e → no e ≡ h
+  unfolding held_of
+  held_err e x = sym (ap (held_of P) x) ∙ q
+
+pub within_is : (P : List ℕ) (r : Fit) (m : MapEntry) → Within P r → r ≡ Ok m → m.first + m.count ≤ pair_count P
 within_is P r m h e = h.inside m e
 
 pub ruleset fits = (map_within, input_within, output_within, within_is)

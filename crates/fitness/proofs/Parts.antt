@@ -1,18 +1,18 @@
 -- Laws of parts of a file, and of the tests on one entry.
-use mathlib.Core.Path.{◌≡◌, refl, sym, ◌∙◌, ap, ap₂}
+use Rattle.std.specs.Ordering.{is_lt}
+use mathlib.Core.Path.{◌≡◌, sym, ◌∙◌, ap, ap₂}
 use mathlib.Core.Bool.{Bool, true, false}
 use mathlib.Core.List.{List, []}
 use Prim.Native.Nat.{ℕ, ◌+◌, ◌-◌, ◌≤◌, ◌<◌}
 use native.Mathlib.Nat.{add-sub_cancel_left}
 use native.Mathlib.Omega.{arith}
-use borrow.Author.Tests.{le-leb, lt-leb, leb-true, leb-false}
 use lib.Dec.{leb, ltb}
 use lib.ListN.{length, take, drop, length-drop, drop_of_length-le}
 use lib.Seq.{take_all, take-nil}
-use Rattle.format.specs.Keys.{order, is_below_def, below}
+use Rattle.format.specs.Keys.{order, below}
 use Rattle.format.specs.Entries.{key_in_def}
 use Rattle.format.specs.Tables.{in_file}
-use Rattle.format.specs.declared.Order.{Order}
+use Rattle.std.specs.declared.cmp.Ordering.{Ordering}
 use Rattle.format.specs.declared.PairEntry.{PairEntry}
 use Rattle.fitness.specs.Parts.{bytes_at, fit_one}
 
@@ -33,20 +33,6 @@ module _ (f : List ℕ) (a n : ℕ) where
   part_all = ap (λ (k : ℕ). take k (drop a f)) (add-sub_cancel_left a n)
 
 pub ruleset parts = (part_none, part_rest, part_all)
-
--- a sum that may not fit
-module _ (L a n : ℕ) where
-  pub lies_past : L < a → leb a L ≡ leb (a + n) L
-  lies_past h = lt-leb a L h ∙ sym (lt-leb (a + n) L (omega arith))
-
-  pub lies_by : a ≤ L → leb n (L - a) ≡ leb (a + n) L
-  lies_by h = by (leb n (L - a)) refl
-    where
-      by : (b : Bool) → leb n (L - a) ≡ b → leb n (L - a) ≡ leb (a + n) L
-      by true q = q ∙ sym (le-leb (a + n) L (omega (arith, leb-true n (L - a) q)))
-      by false q = q ∙ sym (lt-leb (a + n) L (omega (arith, leb-false n (L - a) q)))
-
-pub ruleset lying = (lies_past, lies_by)
 
 -- an entry in the file
 module _ (f : List ℕ) (e : PairEntry) (k : Bool) (is : k ≡ leb (e.key + e.klen) (length f)) where
@@ -71,9 +57,9 @@ module _ (f : List ℕ) (last e : PairEntry) (i : Bool) (is : i ≡ in_file f e)
   unfolding fit_one
   one_out q = q ∙ rw (sym is ∙ q)
 
-  pub one_in : i ≡ true → (r : Bool) (o : Order) (a b : List ℕ) → r ≡ is_below_def o → o ≡ order a b → a ≡ key_in_def f last → b ≡ key_in_def f e
+  pub one_in : i ≡ true → (r : Bool) (o : Ordering) (a b : List ℕ) → r ≡ is_lt o → o ≡ order a b → a ≡ key_in_def f last → b ≡ key_in_def f e
       → r ≡ fit_one f last e
   unfolding fit_one below
-  one_in q r o a b er eo ea eb = er ∙ ap is_below_def (eo ∙ ap₂ order ea eb) ∙ sym (rw (sym is ∙ q))
+  one_in q r o a b er eo ea eb = er ∙ ap is_lt (eo ∙ ap₂ order ea eb) ∙ sym (rw (sym is ∙ q))
 
 pub ruleset ones = (one_out, one_in)

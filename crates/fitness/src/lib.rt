@@ -10,13 +10,6 @@ ghost use Rattle.fitness.specs.Parts.{bytes_at, fit_one};
 
 use format::{MapEntry, PairEntry, Psbt, PsbtError};
 
-// What the asked map is: its entry, whose pairs are all fit, or the refusal.
-#[derive(Clone, Copy)]
-pub enum Fit {
-    Refused(PsbtError),
-    Is(MapEntry),
-}
-
 // `len` bytes from `start` on, or as many as there are.
 pub fn bytes_at(file: &[u8], start: usize, len: usize) -> &[u8]
     ensures { result.now ≡ bytes_at file.now start len }
@@ -62,7 +55,7 @@ fn in_file(file: &[u8], e: PairEntry) -> bool
 fn fit_one(file: &[u8], last: PairEntry, e: PairEntry) -> bool
     ensures { result ≡ fit_one file.now last e }
 {
-    in_file(file, e) && keys::is_below(keys::compare(key_in(file, last), key_in(file, e)))
+    in_file(file, e) && keys::compare(key_in(file, last), key_in(file, e)).is_lt()
 }
 
 // The pairs of a map are all fit.
@@ -70,42 +63,36 @@ fn fit_all(file: &[u8], pairs: &[u32], m: MapEntry) -> bool
     requires { m.first + m.count ≤ pair_count pairs.now }
     ensures { result ≡ fit file.now [] (entries_of pairs.now m) }
 {
-    let mut i = m.first;
-    let mut unseen = m.count;
     let mut last = PairEntry {
         key: 0,
         klen: 0,
         value: 0,
         vlen: 0,
     };
-    while 0 < unseen {
-        let e = entries::pair_entry(pairs, i);
-        if fit_one(file, last, e) {
-            last = e;
-            i = i + 1;
-            unseen = unseen - 1;
-        } else {
+    for e in entries::pairs_of(pairs, m) {
+        if !fit_one(file, last, e) {
             return false;
         }
+        last = e;
     }
     true
 }
 
 // The map of an entry.
-fn fit_entry(file: &[u8], pairs: &[u32], m: MapEntry) -> Fit
+fn fit_entry(file: &[u8], pairs: &[u32], m: MapEntry) -> Result<MapEntry, PsbtError>
     ensures { result ≡ fit_entry file.now pairs.now m }
 {
     let n = entries::pair_count(pairs);
     if n < m.first {
-        return Fit::Refused(PsbtError::BadIndex);
+        return Err(PsbtError::BadIndex);
     }
     if n - m.first < m.count {
-        return Fit::Refused(PsbtError::BadIndex);
+        return Err(PsbtError::BadIndex);
     }
     if fit_all(file, pairs, m) {
-        Fit::Is(m)
+        Ok(m)
     } else {
-        Fit::Refused(PsbtError::BadIndex)
+        Err(PsbtError::BadIndex)
     }
 }
 
@@ -117,18 +104,24 @@ pub fn is_reported(psbt: Psbt, m: u64) -> bool
 }
 
 // Why a map that the table doesn't have is refused: its number comes before its entry.
-fn not_listed(reported: bool) -> Fit
+fn not_listed(reported: bool) -> Result<MapEntry, PsbtError>
     ensures { result ≡ not_listed reported }
 {
     if reported {
-        Fit::Refused(PsbtError::BadIndex)
+        Err(PsbtError::BadIndex)
     } else {
-        Fit::Refused(PsbtError::OutOfRange)
+        Err(PsbtError::OutOfRange)
     }
 }
 
 // Map number `m`.
-pub fn fit_map(file: &[u8], pairs: &[u32], maps: &[u32], psbt: Psbt, m: u64) -> Fit
+pub fn fit_map(
+    file: &[u8],
+    pairs: &[u32],
+    maps: &[u32],
+    psbt: Psbt,
+    m: u64,
+) -> Result<MapEntry, PsbtError>
     ensures { result ≡ fit_at file.now pairs.now maps.now psbt m }
 {
     let reported = is_reported(psbt, m);
@@ -136,7 +129,7 @@ pub fn fit_map(file: &[u8], pairs: &[u32], maps: &[u32], psbt: Psbt, m: u64) -> 
         if reported {
             fit_entry(file, pairs, entries::map_entry(maps, m as usize))
         } else {
-            Fit::Refused(PsbtError::OutOfRange)
+            Err(PsbtError::OutOfRange)
         }
     } else {
         not_listed(reported)
@@ -144,26 +137,38 @@ pub fn fit_map(file: &[u8], pairs: &[u32], maps: &[u32], psbt: Psbt, m: u64) -> 
 }
 
 // Input number `i`.
-pub fn fit_input(file: &[u8], pairs: &[u32], maps: &[u32], psbt: Psbt, i: u64) -> Fit
+pub fn fit_input(
+    file: &[u8],
+    pairs: &[u32],
+    maps: &[u32],
+    psbt: Psbt,
+    i: u64,
+) -> Result<MapEntry, PsbtError>
     ensures { result ≡ fit_input file.now pairs.now maps.now psbt i }
 {
     if i < psbt.inputs {
         fit_map(file, pairs, maps, psbt, 1 + i)
     } else {
-        Fit::Refused(PsbtError::OutOfRange)
+        Err(PsbtError::OutOfRange)
     }
 }
 
 // Output number `i`.
-pub fn fit_output(file: &[u8], pairs: &[u32], maps: &[u32], psbt: Psbt, i: u64) -> Fit
+pub fn fit_output(
+    file: &[u8],
+    pairs: &[u32],
+    maps: &[u32],
+    psbt: Psbt,
+    i: u64,
+) -> Result<MapEntry, PsbtError>
     ensures { result ≡ fit_output file.now pairs.now maps.now psbt i }
 {
     if psbt.outputs <= i {
-        return Fit::Refused(PsbtError::OutOfRange);
+        return Err(PsbtError::OutOfRange);
     }
     // No table has so many entries.
     if u64::MAX - psbt.inputs <= i {
-        return Fit::Refused(PsbtError::BadIndex);
+        return Err(PsbtError::BadIndex);
     }
     fit_map(file, pairs, maps, psbt, 1 + (psbt.inputs + i))
 }

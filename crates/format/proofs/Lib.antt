@@ -1,3 +1,4 @@
+pub mod Answers
 pub mod Refusals
 pub mod Tests
 pub mod Numbers
@@ -7,3 +8,4 @@ pub mod Wrong
 pub mod Told
 pub mod Entries
 pub mod Maybes
+pub mod MapKinds

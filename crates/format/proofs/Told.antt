@@ -19,45 +19,28 @@ use Rattle.format.specs.declared.PsbtError.TheVariants.{UnsortedKeys, BadValue, 
 use Rattle.format.specs.declared.PsbtError.TheVariants.{MissingWitnessScript, CountsTooLarge, NotAllowed, OutOfRange, UnknownOutputType}
 use Rattle.format.specs.declared.PsbtError.TheVariants.{Unsupported, MissingOutputScript, InvalidSilentPayment, InvalidOutputScripts}
 use Rattle.format.specs.declared.PsbtError.TheVariants.{InvalidSighashType, TooLong, PairsFull, MapsFull, BadIndex, NoRoom}
-use Rattle.format.specs.declared.Ruled.{Ruled}
-use Rattle.format.specs.declared.Ruled.TheVariants.{Passed, Refused}
-use Rattle.format.specs.declared.Maybe.{Maybe}
-use Rattle.format.specs.declared.Maybe.TheVariants.{Absent, Present}
+use Rattle.format.specs.Answers.{part_at, pairs_at, utxo_with, wrote_tx, passed, Decided, Listing, Looked}
+use Rattle.format.specs.Answers.{Maybe, Nth, Numbered, OutputScript, Ruled, ScriptsSet, UnsignedTx, Utxo}
+use Rattle.std.specs.Prelude.{Ok, Err, Some, None}
 use Rattle.format.specs.declared.Parsed.{Parsed}
 use Rattle.format.specs.declared.Parsed.TheVariants as P
-use Rattle.format.specs.declared.Looked.{Looked}
-use Rattle.format.specs.declared.Looked.TheVariants as K
-use Rattle.format.specs.declared.Numbered.{Numbered}
-use Rattle.format.specs.declared.Numbered.TheVariants as N
-use Rattle.format.specs.declared.Listing.{Listing}
-use Rattle.format.specs.declared.Listing.TheVariants as L
-use Rattle.format.specs.declared.Nth.{Nth}
-use Rattle.format.specs.declared.Nth.TheVariants as I
-use Rattle.format.specs.declared.Utxo.{Utxo}
-use Rattle.format.specs.declared.Utxo.TheVariants as U
-use Rattle.format.specs.declared.Lock.{Lock}
 use Rattle.format.specs.declared.Lock.TheVariants as D
-use Rattle.format.specs.declared.ScriptsSet.{ScriptsSet}
-use Rattle.format.specs.declared.ScriptsSet.TheVariants as S
-use Rattle.format.specs.declared.UnsignedTx.{UnsignedTx}
-use Rattle.format.specs.declared.UnsignedTx.TheVariants as X
-use Rattle.format.specs.declared.OutputScript.{OutputScript}
-use Rattle.format.specs.declared.OutputScript.TheVariants as O
+use Rattle.format.specs.declared.ScriptPlace.TheVariants as O
 
 -- the refusal of a number, 0 for none
 errors : List Ruled
 errors =
-    Passed ∷ Refused InvalidMagic ∷ Refused UnexpectedEof ∷ Refused InvalidCompactSize ∷ Refused MapTerminatorMissing
-    ∷ Refused DuplicateKey ∷ Refused UnsortedKeys ∷ Refused BadValue ∷ Refused MissingCounts ∷ Refused MissingOutputIndex
-    ∷ Refused MissingRedeemScript ∷ Refused MissingWitnessScript ∷ Refused CountsTooLarge ∷ Refused NotAllowed
-    ∷ Refused OutOfRange ∷ Refused UnknownOutputType ∷ Refused Unsupported ∷ Refused MissingOutputScript
-    ∷ Refused InvalidSilentPayment ∷ Refused InvalidOutputScripts ∷ Refused InvalidSighashType ∷ Refused TooLong
-    ∷ Refused PairsFull ∷ Refused MapsFull ∷ Refused BadIndex ∷ Refused NoRoom ∷ []
+    passed ∷ Err InvalidMagic ∷ Err UnexpectedEof ∷ Err InvalidCompactSize ∷ Err MapTerminatorMissing
+    ∷ Err DuplicateKey ∷ Err UnsortedKeys ∷ Err BadValue ∷ Err MissingCounts ∷ Err MissingOutputIndex
+    ∷ Err MissingRedeemScript ∷ Err MissingWitnessScript ∷ Err CountsTooLarge ∷ Err NotAllowed
+    ∷ Err OutOfRange ∷ Err UnknownOutputType ∷ Err Unsupported ∷ Err MissingOutputScript
+    ∷ Err InvalidSilentPayment ∷ Err InvalidOutputScripts ∷ Err InvalidSighashType ∷ Err TooLong
+    ∷ Err PairsFull ∷ Err MapsFull ∷ Err BadIndex ∷ Err NoRoom ∷ []
 
 error_of : ℕ → Ruled
-error_of n = get_or errors n Passed
+error_of n = get_or errors n passed
 
-error_of_lem : (e : PsbtError) → error_of (number_of e) ≡ Refused e
+error_of_lem : (e : PsbtError) → error_of (number_of e) ≡ Err e
 unfolding error_of errors number_of
 error_of_lem InvalidMagic = refl
 error_of_lem UnexpectedEof = refl
@@ -101,14 +84,14 @@ flag_of (int z) = false
 flag_of (flag b) = b
 
 maybe_of : Value → Maybe
-maybe_of none = Absent
-maybe_of (int z) = Present (nat_of z)
-maybe_of (flag b) = Absent
+maybe_of none = None
+maybe_of (int z) = Some (nat_of z)
+maybe_of (flag b) = None
 
 maybe_of_lem : (m : Maybe) → maybe_of (maybe_value m) ≡ m
 unfolding maybe_of maybe_value nat_of
-maybe_of_lem Absent = refl
-maybe_of_lem (Present n) = refl
+maybe_of_lem None = refl
+maybe_of_lem (Some n) = refl
 
 int_at : List Value → ℕ → ℤ
 int_at vs i = int_of (get_or vs i none)
@@ -125,163 +108,164 @@ known_by tell back r a b h = sym (r a) ∙ ap back h ∙ r b
 
 -- each answer in turn
 looked_by : Ruled → List Value → Looked
-looked_by (Refused e) vs = K.Refused e
-looked_by Passed vs = pick (eqb (length vs) 0) K.Absent (K.At (nat_at vs 0) (nat_at vs 1))
+looked_by (Err e) vs = Err e
+looked_by (Ok u) vs = pick (eqb (length vs) 0) (Ok None) (Ok (Some (part_at (nat_at vs 0) (nat_at vs 1))))
 
 looked_of : Told → Looked
 looked_of (told n vs) = looked_by (error_of n) vs
 
 looked_of_lem : (a : Looked) → looked_of (told_looked a) ≡ a
 unfolding told_looked looked_of looked_by error_of errors int_of nat_of flag_of int_at nat_at flag_at
-looked_of_lem (K.Refused e) = rw (error_of_lem e)
-looked_of_lem K.Absent = refl
-looked_of_lem (K.At x n) = refl
+looked_of_lem (Err e) = rw (error_of_lem e)
+looked_of_lem (Ok None) = refl
+looked_of_lem (Ok (Some p)) = refl
 
 pub looked_one : (a b : Looked) → told_looked a ≡ told_looked b → a ≡ b
 looked_one = known_by told_looked looked_of looked_of_lem
 
 numbered_by : Ruled → List Value → Numbered
-numbered_by (Refused e) vs = N.Refused e
-numbered_by Passed vs = pick (eqb (length vs) 0) N.Absent (N.Is (nat_at vs 0))
+numbered_by (Err e) vs = Err e
+numbered_by (Ok u) vs = pick (eqb (length vs) 0) (Ok None) (Ok (Some (nat_at vs 0)))
 
 numbered_of_lem : Told → Numbered
 numbered_of_lem (told n vs) = numbered_by (error_of n) vs
 
 numbered_of : (a : Numbered) → numbered_of_lem (told_numbered a) ≡ a
 unfolding told_numbered numbered_of_lem numbered_by error_of errors int_of nat_of flag_of int_at nat_at flag_at
-numbered_of (N.Refused e) = rw (error_of_lem e)
-numbered_of N.Absent = refl
-numbered_of (N.Is n) = refl
+numbered_of (Err e) = rw (error_of_lem e)
+numbered_of (Ok None) = refl
+numbered_of (Ok (Some n)) = refl
 
 pub numbered_one : (a b : Numbered) → told_numbered a ≡ told_numbered b → a ≡ b
 numbered_one = known_by told_numbered numbered_of_lem numbered_of
 
 listing_by : Ruled → List Value → Listing
-listing_by (Refused e) vs = L.Refused e
-listing_by Passed vs = L.Pairs (nat_at vs 0) (nat_at vs 1)
+listing_by (Err e) vs = Err e
+listing_by (Ok u) vs = Ok (pairs_at (nat_at vs 0) (nat_at vs 1))
 
 listing_of : Told → Listing
 listing_of (told n vs) = listing_by (error_of n) vs
 
 listing_of_lem : (a : Listing) → listing_of (told_listing a) ≡ a
 unfolding told_listing listing_of listing_by error_of errors int_of nat_of flag_of int_at nat_at flag_at
-listing_of_lem (L.Refused e) = rw (error_of_lem e)
-listing_of_lem (L.Pairs i n) = refl
+listing_of_lem (Err e) = rw (error_of_lem e)
+listing_of_lem (Ok l) = refl
 
 pub listing_one : (a b : Listing) → told_listing a ≡ told_listing b → a ≡ b
 listing_one = known_by told_listing listing_of listing_of_lem
 
 nth_by : Ruled → List Value → Nth
-nth_by (Refused e) vs = I.Refused e
-nth_by Passed vs = I.Is (record { key = nat_at vs 0; klen = nat_at vs 1; value = nat_at vs 2; vlen = nat_at vs 3 })
+nth_by (Err e) vs = Err e
+nth_by (Ok u) vs = Ok (record { key = nat_at vs 0; klen = nat_at vs 1; value = nat_at vs 2; vlen = nat_at vs 3 })
 
 nth_of : Told → Nth
 nth_of (told n vs) = nth_by (error_of n) vs
 
 nth_of_lem : (a : Nth) → nth_of (told_nth a) ≡ a
 unfolding told_nth nth_of nth_by error_of errors int_of nat_of flag_of int_at nat_at flag_at
-nth_of_lem (I.Refused e) = rw (error_of_lem e)
-nth_of_lem (I.Is x) = refl
+nth_of_lem (Err e) = rw (error_of_lem e)
+nth_of_lem (Ok x) = refl
 
 pub nth_one : (a b : Nth) → told_nth a ≡ told_nth b → a ≡ b
 nth_one = known_by told_nth nth_of nth_of_lem
 
 utxo_by : Ruled → List Value → Utxo
-utxo_by (Refused e) vs = U.Refused e
-utxo_by Passed vs = pick (eqb (length vs) 0) U.Absent (U.Is (nat_at vs 0) (nat_at vs 1) (nat_at vs 2))
+utxo_by (Err e) vs = Err e
+utxo_by (Ok u) vs = pick (eqb (length vs) 0) (Ok None) (Ok (Some (utxo_with (nat_at vs 0) (nat_at vs 1) (nat_at vs 2))))
 
 utxo_of : Told → Utxo
 utxo_of (told n vs) = utxo_by (error_of n) vs
 
 utxo_of_lem : (a : Utxo) → utxo_of (told_utxo a) ≡ a
 unfolding told_utxo utxo_of utxo_by error_of errors int_of nat_of flag_of int_at nat_at flag_at
-utxo_of_lem (U.Refused e) = rw (error_of_lem e)
-utxo_of_lem U.Absent = refl
-utxo_of_lem (U.Is a x n) = refl
+utxo_of_lem (Err e) = rw (error_of_lem e)
+utxo_of_lem (Ok None) = refl
+utxo_of_lem (Ok (Some u)) = refl
 
 pub utxo_one : (a b : Utxo) → told_utxo a ≡ told_utxo b → a ≡ b
 utxo_one = known_by told_utxo utxo_of utxo_of_lem
 
 set_by : Ruled → List Value → ScriptsSet
-set_by (Refused e) vs = S.Refused e
-set_by Passed vs = S.Done (record { set = flag_at vs 0; written = flag_at vs 1 })
+set_by (Err e) vs = Err e
+set_by (Ok u) vs = Ok (record { set = flag_at vs 0; written = flag_at vs 1 })
 
 set_of : Told → ScriptsSet
 set_of (told n vs) = set_by (error_of n) vs
 
 set_of_lem : (a : ScriptsSet) → set_of (told_set a) ≡ a
 unfolding told_set set_of set_by error_of errors int_of nat_of flag_of int_at nat_at flag_at
-set_of_lem (S.Refused e) = rw (error_of_lem e)
-set_of_lem (S.Done t) = refl
+set_of_lem (Err e) = rw (error_of_lem e)
+set_of_lem (Ok t) = refl
 
 pub set_one : (a b : ScriptsSet) → told_set a ≡ told_set b → a ≡ b
 set_one = known_by told_set set_of set_of_lem
 
 tx_by : Ruled → List Value → UnsignedTx
-tx_by (Refused e) vs = X.Refused e
-tx_by Passed vs = X.Written (nat_at vs 0) (record { set = flag_at vs 1; written = flag_at vs 2 })
+tx_by (Err e) vs = Err e
+tx_by (Ok u) vs = Ok (wrote_tx (nat_at vs 0) (record { set = flag_at vs 1; written = flag_at vs 2 }))
 
 tx_of : Told → UnsignedTx
 tx_of (told n vs) = tx_by (error_of n) vs
 
 tx_of_lem : (a : UnsignedTx) → tx_of (told_tx a) ≡ a
 unfolding told_tx tx_of tx_by error_of errors int_of nat_of flag_of int_at nat_at flag_at
-tx_of_lem (X.Refused e) = rw (error_of_lem e)
-tx_of_lem (X.Written n t) = refl
+tx_of_lem (Err e) = rw (error_of_lem e)
+tx_of_lem (Ok w) = refl
 
 pub tx_one : (a b : UnsignedTx) → told_tx a ≡ told_tx b → a ≡ b
 tx_one = known_by told_tx tx_of tx_of_lem
 
 script_by : Ruled → List Value → OutputScript
-script_by (Refused e) vs = O.Refused e
-script_by Passed vs =
-    pick (eqb (length vs) 0) O.Absent (pick (eqb (nat_at vs 0) 0) (O.InFile (nat_at vs 1) (nat_at vs 2)) (O.InTable (nat_at vs 1) (nat_at vs 2)))
+script_by (Err e) vs = Err e
+script_by (Ok u) vs =
+    pick (eqb (length vs) 0) (Ok None) (pick (eqb (nat_at vs 0) 0) (Ok (Some (O.InFile (nat_at vs 1) (nat_at vs 2))))
+    (Ok (Some (O.InTable (nat_at vs 1) (nat_at vs 2)))))
 
 script_of : Told → OutputScript
 script_of (told n vs) = script_by (error_of n) vs
 
 script_of_lem : (a : OutputScript) → script_of (told_script a) ≡ a
 unfolding told_script script_of script_by error_of errors int_of nat_of flag_of int_at nat_at flag_at
-script_of_lem (O.Refused e) = rw (error_of_lem e)
-script_of_lem O.Absent = refl
-script_of_lem (O.InFile s n) = refl
-script_of_lem (O.InTable s n) = refl
+script_of_lem (Err e) = rw (error_of_lem e)
+script_of_lem (Ok None) = refl
+script_of_lem (Ok (Some (O.InFile s n))) = refl
+script_of_lem (Ok (Some (O.InTable s n))) = refl
 
 pub script_one : (a b : OutputScript) → told_script a ≡ told_script b → a ≡ b
 script_one = known_by told_script script_of script_of_lem
 
-lock_rule : PsbtError → List Value → Lock
-lock_rule e [] = D.Refused e
+lock_rule : PsbtError → List Value → Decided
+lock_rule e [] = Err e
 lock_rule e (v ∷ vs) =
-    pick (eqb (nat_of (int_of v)) 1) (D.BothKinds (nat_at vs 0) (nat_at vs 1))
-    (pick (eqb (nat_of (int_of v)) 2) (D.HeightTooGreat (nat_at vs 0) (nat_at vs 1))
-    (pick (eqb (nat_of (int_of v)) 3) (D.TimeTooSmall (nat_at vs 0) (nat_at vs 1)) (D.Malformed (nat_at vs 0))))
+    pick (eqb (nat_of (int_of v)) 1) (Ok (D.BothKinds (nat_at vs 0) (nat_at vs 1)))
+    (pick (eqb (nat_of (int_of v)) 2) (Ok (D.HeightTooGreat (nat_at vs 0) (nat_at vs 1)))
+    (pick (eqb (nat_of (int_of v)) 3) (Ok (D.TimeTooSmall (nat_at vs 0) (nat_at vs 1))) (Ok (D.Malformed (nat_at vs 0)))))
 
-lock_by : Ruled → List Value → Lock
-lock_by (Refused e) vs = lock_rule e vs
-lock_by Passed vs = pick (eqb (nat_at vs 0) 0) (D.Fallback (nat_at vs 1))
-    (pick (eqb (nat_at vs 0) 1) (D.Height (nat_at vs 1) (nat_at vs 2)) (D.Time (nat_at vs 1) (nat_at vs 2)))
+lock_by : Ruled → List Value → Decided
+lock_by (Err e) vs = lock_rule e vs
+lock_by (Ok u) vs = pick (eqb (nat_at vs 0) 0) (Ok (D.Fallback (nat_at vs 1)))
+    (pick (eqb (nat_at vs 0) 1) (Ok (D.Height (nat_at vs 1) (nat_at vs 2))) (Ok (D.Time (nat_at vs 1) (nat_at vs 2))))
 
-lock_of : Told → Lock
+lock_of : Told → Decided
 lock_of (told n vs) = lock_by (error_of n) vs
 
-lock_of_lem : (a : Lock) → lock_of (told_lock a) ≡ a
+lock_of_lem : (a : Decided) → lock_of (told_lock a) ≡ a
 unfolding told_lock lock_of lock_by lock_rule error_of errors number_of int_of nat_of flag_of int_at nat_at flag_at
-lock_of_lem (D.Refused e) = rw (error_of_lem e)
-lock_of_lem (D.Height n i) = refl
-lock_of_lem (D.Time n i) = refl
-lock_of_lem (D.Fallback n) = refl
-lock_of_lem (D.BothKinds h t) = refl
-lock_of_lem (D.HeightTooGreat n i) = refl
-lock_of_lem (D.TimeTooSmall n i) = refl
-lock_of_lem (D.Malformed i) = refl
+lock_of_lem (Err e) = rw (error_of_lem e)
+lock_of_lem (Ok (D.Height n i)) = refl
+lock_of_lem (Ok (D.Time n i)) = refl
+lock_of_lem (Ok (D.Fallback n)) = refl
+lock_of_lem (Ok (D.BothKinds h t)) = refl
+lock_of_lem (Ok (D.HeightTooGreat n i)) = refl
+lock_of_lem (Ok (D.TimeTooSmall n i)) = refl
+lock_of_lem (Ok (D.Malformed i)) = refl
 
-pub lock_one : (a b : Lock) → told_lock a ≡ told_lock b → a ≡ b
+pub lock_one : (a b : Decided) → told_lock a ≡ told_lock b → a ≡ b
 lock_one = known_by told_lock lock_of lock_of_lem
 
 parsed_by : Ruled → List Value → Parsed
-parsed_by (Refused e) vs = P.Refused e (nat_at vs 0) (nat_at vs 1)
-parsed_by Passed vs =
+parsed_by (Err e) vs = P.Refused e (nat_at vs 0) (nat_at vs 1)
+parsed_by (Ok u) vs =
     P.Accepted (record {
       tx_version = int_at vs 0;
       fallback_locktime = maybe_of (get_or vs 1 none);

@@ -14,8 +14,8 @@ use Rattle.format.specs.declared.PsbtError.{PsbtError}
 use Rattle.format.specs.declared.Psbt.{Psbt}
 use Rattle.format.specs.declared.Parsed.{Parsed}
 use Rattle.format.specs.declared.Parsed.TheVariants as R
-use Rattle.format.specs.declared.UnsignedTx.{UnsignedTx}
-use Rattle.format.specs.declared.UnsignedTx.TheVariants as U
+use Rattle.format.specs.Answers.{wrote_tx, UnsignedTx}
+use Rattle.std.specs.Prelude.{Ok}
 
 -- what the definition gives of E and of F, in tables that held zeros
 parsed_e : parsed file_e (replicate 16 0) (replicate 2 0) ≡ out (R.Accepted psbt_e 4 1) pairs_e (0 ∷ 4 ∷ [])
@@ -27,7 +27,7 @@ unfolding computes
 parsed_f_lem = refl
 
 tx_f_lem : unsigned_tx_def (view file_f pairs_f maps_f psbt_f) psbt_f fresh [] (replicate 61 0)
-    ≡ tx_out (U.Written 61 (record { set = false; written = true })) (tx_f (0 ∷ 0 ∷ 0 ∷ 0 ∷ []))
+    ≡ tx_out (Ok (wrote_tx 61 (record { set = false; written = true }))) (tx_f (0 ∷ 0 ∷ 0 ∷ 0 ∷ []))
 unfolding computes
 tx_f_lem = refl
 

@@ -4,7 +4,7 @@ use Rattle.format.specs.Refusals.{number_of}
 use Rattle.format.specs.Tests.{only, every}
 use Rattle.format.specs.Numbers.{le, bytes_of, signed, unsigned}
 use Rattle.format.specs.Compact.{long, size_by, size, shortest, count_by_def, count}
-use Rattle.format.specs.Keys.{type_of, data_of, key_of, order, is_below_def, is_same_def, below, same}
+use Rattle.format.specs.Keys.{type_of, data_of, key_of, order, below, same}
 use Rattle.format.specs.Rules.{value_fits, is_row, row_rule, sizes_in, sizes, count_rule, bare_rule, and_then, rule}
 use Rattle.format.specs.Content.{find, field, present, number, maybe, size_value, counted, psbt_of}
 use Rattle.format.specs.Content.{global_rule, modifiable, output_by, output_rule, outputs_rule}
@@ -15,7 +15,7 @@ use Rattle.format.specs.Entries.{value_in_def, shown}
 use Rattle.format.specs.Parse.{ParseOut, out, cut, parsed}
 use Rattle.format.specs.Tables.{in_file, fit, fitted, held_by_def, maps_reported, held, view_of, view, gather_by, gather}
 use Rattle.format.specs.Locks.{sized_to, in_of, asked_by_def, along, heights, times, is_misfit, misfit_by, misfits, greatest}
-use Rattle.format.specs.Locks.{height_lock, time_lock, or_zero, decide_by, well_formed, decide, lock_of}
+use Rattle.format.specs.Locks.{height_lock, time_lock, decide_by, well_formed, decide, lock_of}
 use Rattle.format.specs.Scripts.{out_of, reported_by, reported, taproot}
 use Rattle.format.specs.Transaction.{entry_fits, scripts_fit, table_fits, set_so_far, set_script, script_of, ahead}
 use Rattle.format.specs.Transaction.{needs, or_final, input_then, inputs_then, needs_script, output_then, outputs_then}
@@ -41,11 +41,11 @@ answers f = answers_to f (parsed f (replicate 48 0) (replicate 8 0))
 -- all that a file's reading and its transaction are made of
 unfoldable pub computes : List ℕ → Answers
 unfolding number_of only every le bytes_of signed unsigned long size_by size shortest count_by_def count type_of data_of key_of order
-    is_below_def is_same_def below same value_fits is_row row_rule sizes_in sizes count_rule bare_rule and_then rule find field present number maybe size_value
+    below same value_fits is_row row_rule sizes_in sizes count_rule bare_rule and_then rule find field present number maybe size_value
     counted psbt_of global_rule modifiable output_by output_rule outputs_rule limit ruled valued risen keyed item_by_def item front turn items mapped
     pair_events map_events maps_events unless lastly global_then events_of events has_room_def pair_entry_words map_entry_words put_pair put_map pair_entries
     map_entries entry_of width key_in_def value_in_def shown cut parsed in_file fit fitted held_by_def maps_reported held view_of view gather_by gather sized_to
-    in_of asked_by_def along heights times is_misfit misfit_by misfits greatest height_lock time_lock or_zero decide_by well_formed decide lock_of out_of
+    in_of asked_by_def along heights times is_misfit misfit_by misfits greatest height_lock time_lock decide_by well_formed decide lock_of out_of
     reported_by reported taproot entry_fits scripts_fit table_fits set_so_far set_script script_of ahead needs or_final input_then inputs_then needs_script
     output_then outputs_then tx_with tx_by transaction tx_reported written unsigned_tx_def maybe_value told_parsed told_tx told_tx_out answers_to answers
 computes = answers

@@ -1,17 +1,12 @@
 -- What a file holds: a parse tree that keeps each pair's spelling, so that it has bytes; and finding a key in a map.
-use Rattle.std.specs.Prelude.{ℕ, ◌%◌, Bool, true, false, not, ◌&&◌, ◌||◌, List, [], ◌∷◌, ◌++◌, eqb}
+use Rattle.std.specs.Prelude.{ℕ, ◌%◌, Bool, true, false, not, ◌&&◌, ◌||◌, List, [], ◌∷◌, ◌++◌, eqb, Ok, Err, Some, None}
 use Rattle.format.specs.Tests.{pick}
 use Rattle.format.specs.Numbers.{le, signed}
 use Rattle.format.specs.Compact.{size}
 use Rattle.format.specs.Keys.{key_of, same}
 use Rattle.format.specs.Rules.{and_then}
 use Rattle.format.specs.declared.PsbtError.TheVariants.{MissingCounts, NotAllowed, MissingOutputScript, InvalidSilentPayment}
-use Rattle.format.specs.declared.Size.{Size}
-use Rattle.format.specs.declared.Size.TheVariants.{Bad, Read}
-use Rattle.format.specs.declared.Ruled.{Ruled}
-use Rattle.format.specs.declared.Ruled.TheVariants.{Passed, Refused}
-use Rattle.format.specs.declared.Maybe.{Maybe}
-use Rattle.format.specs.declared.Maybe.TheVariants.{Absent, Present}
+use Rattle.format.specs.Answers.{passed, Maybe, Ruled, Size}
 use Rattle.format.specs.declared.Psbt.{Psbt}
 
 -- a pair as the file spells it: the key length's bytes, the key, the value length's bytes, the value
@@ -88,13 +83,13 @@ number (found v) = le v
 
 -- the number that a value spells, if there is one
 unfoldable pub maybe : Found → Maybe
-maybe absent = Absent
-maybe (found v) = Present (le v)
+maybe absent = None
+maybe (found v) = Some (le v)
 
 -- the count that a count field says, absent 0
 unfoldable pub size_value : Size → ℕ
-size_value (Bad e) = 0
-size_value (Read n u) = n
+size_value (Err e) = 0
+size_value (Ok r) = r.value
 
 -- the count that a count field's value says
 unfoldable pub counted : Found → ℕ
@@ -115,8 +110,8 @@ psbt_of g = record {
 unfoldable pub global_rule : List Pair → Ruled
 global_rule g =
     pick (present (field 0x02 g) && (present (field 0x04 g) && (present (field 0x05 g) && present (field 0xfb g))))
-    (pick (eqb (number (field 0xfb g)) 2) Passed (Refused NotAllowed))
-    (Refused MissingCounts)
+    (pick (eqb (number (field 0xfb g)) 2) passed (Err NotAllowed))
+    (Err MissingCounts)
 
 -- any of the two low flags of the modifiable byte is set
 unfoldable pub modifiable : Found → Bool
@@ -126,9 +121,9 @@ modifiable f = not (eqb (number f % 4) 0)
 unfoldable pub output_by : Bool → Bool → Bool → Bool → Ruled
 output_by flags script code label =
     pick (script || code)
-    (pick (script && (code && flags)) (Refused InvalidSilentPayment)
-    (pick (label && not code) (Refused InvalidSilentPayment) Passed))
-    (Refused MissingOutputScript)
+    (pick (script && (code && flags)) (Err InvalidSilentPayment)
+    (pick (label && not code) (Err InvalidSilentPayment) passed))
+    (Err MissingOutputScript)
 
 -- the rule of an output, by what its pairs have
 unfoldable pub output_rule : Bool → List Pair → Ruled
@@ -136,5 +131,5 @@ output_rule flags o = output_by flags (present (field 0x04 o)) (present (field 0
 
 -- output by output, the first breach deciding
 unfoldable pub outputs_rule : Bool → List Map → Ruled
-outputs_rule flags [] = Passed
+outputs_rule flags [] = passed
 outputs_rule flags (m ∷ ms) = and_then (output_rule flags m.pairs) (outputs_rule flags ms)

@@ -1,8 +1,7 @@
 -- The file that examples of tables and lookups look into: byte number i is i, so a key of type t may stand at byte t.
-use Rattle.std.specs.Prelude.{ℕ, List, [], ◌∷◌, take, drop, pos}
+use Rattle.std.specs.Prelude.{ℕ, List, [], ◌∷◌, take, drop, pos, None}
 use Rattle.format.specs.Tables.{Held, held, held_input, held_output}
 use Rattle.format.specs.Told.{Told, told, nat}
-use Rattle.format.specs.declared.Maybe.TheVariants.{Absent}
 use Rattle.format.specs.declared.Psbt.{Psbt}
 use Rattle.format.specs.declared.PairEntry.{PairEntry}
 use Rattle.format.specs.declared.MapEntry.{MapEntry}
@@ -23,7 +22,7 @@ bytes_at s n = take n (drop s counting)
 
 -- a report of so many inputs and outputs
 abbrev pub counts : ℕ → ℕ → Psbt
-counts i o = record { tx_version = pos 2; fallback_locktime = Absent; tx_modifiable = Absent; inputs = i; outputs = o }
+counts i o = record { tx_version = pos 2; fallback_locktime = None; tx_modifiable = None; inputs = i; outputs = o }
 
 -- an entry: key start, key length, value start, value length
 abbrev pub entry : ℕ → ℕ → ℕ → ℕ → PairEntry

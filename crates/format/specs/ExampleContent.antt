@@ -1,13 +1,12 @@
 -- Computed examples of what is asked of whole maps: the global map, what is reported of it, the outputs; and of a content's bytes.
-use Rattle.std.specs.Prelude.{ℕ, refl, Bool, true, false, List, [], ◌∷◌, negsuc}
+use Rattle.std.specs.Prelude.{ℕ, refl, Bool, true, false, List, [], ◌∷◌, negsuc, Err}
 use Rattle.format.specs.Rows.{Row, is, Hold}
 use Rattle.format.specs.Unfolds.{lookups}
 use Rattle.format.specs.Content.{Pair, Map, Content, maps_of, bytes, Found, absent, found, find, field}
 use Rattle.format.specs.Content.{psbt_of, global_rule, modifiable, output_by, output_rule, outputs_rule}
 use Rattle.format.specs.Told.{Value, none, int, Told, told, nat, told_parsed}
 use Rattle.format.specs.declared.PsbtError.TheVariants.{MissingCounts, NotAllowed, MissingOutputScript, InvalidSilentPayment}
-use Rattle.format.specs.declared.Ruled.{Ruled}
-use Rattle.format.specs.declared.Ruled.TheVariants.{Passed, Refused}
+use Rattle.format.specs.Answers.{passed, Ruled}
 use Rattle.format.specs.declared.Parsed.TheVariants.{Accepted}
 
 -- a pair of a type without key data
@@ -42,32 +41,32 @@ keys_found = refl
 unfoldable pub globals : List (Row Ruled)
 globals =
     -- all four, version 2
-    is (global_rule (bare 0x02 two ∷ bare 0x04 (0x00 ∷ []) ∷ bare 0x05 (0x00 ∷ []) ∷ bare 0xfb two ∷ [])) Passed
+    is (global_rule (bare 0x02 two ∷ bare 0x04 (0x00 ∷ []) ∷ bare 0x05 (0x00 ∷ []) ∷ bare 0xfb two ∷ [])) passed
     -- one of them missing
-    ∷ is (global_rule (bare 0x04 (0x00 ∷ []) ∷ bare 0x05 (0x00 ∷ []) ∷ bare 0xfb two ∷ [])) (Refused MissingCounts)
-    ∷ is (global_rule (bare 0x02 two ∷ bare 0x05 (0x00 ∷ []) ∷ bare 0xfb two ∷ [])) (Refused MissingCounts)
-    ∷ is (global_rule (bare 0x02 two ∷ bare 0x04 (0x00 ∷ []) ∷ bare 0xfb two ∷ [])) (Refused MissingCounts)
-    ∷ is (global_rule (bare 0x02 two ∷ bare 0x04 (0x00 ∷ []) ∷ bare 0x05 (0x00 ∷ []) ∷ [])) (Refused MissingCounts)
+    ∷ is (global_rule (bare 0x04 (0x00 ∷ []) ∷ bare 0x05 (0x00 ∷ []) ∷ bare 0xfb two ∷ [])) (Err MissingCounts)
+    ∷ is (global_rule (bare 0x02 two ∷ bare 0x05 (0x00 ∷ []) ∷ bare 0xfb two ∷ [])) (Err MissingCounts)
+    ∷ is (global_rule (bare 0x02 two ∷ bare 0x04 (0x00 ∷ []) ∷ bare 0xfb two ∷ [])) (Err MissingCounts)
+    ∷ is (global_rule (bare 0x02 two ∷ bare 0x04 (0x00 ∷ []) ∷ bare 0x05 (0x00 ∷ []) ∷ [])) (Err MissingCounts)
     -- one of them with key data only
-    ∷ is (global_rule (keyed 0x02 two ∷ bare 0x04 (0x00 ∷ []) ∷ bare 0x05 (0x00 ∷ []) ∷ bare 0xfb two ∷ [])) (Refused MissingCounts)
-    ∷ is (global_rule (bare 0x02 two ∷ keyed 0x04 (0x00 ∷ []) ∷ bare 0x05 (0x00 ∷ []) ∷ bare 0xfb two ∷ [])) (Refused MissingCounts)
-    ∷ is (global_rule (bare 0x02 two ∷ bare 0x04 (0x00 ∷ []) ∷ keyed 0x05 (0x00 ∷ []) ∷ bare 0xfb two ∷ [])) (Refused MissingCounts)
-    ∷ is (global_rule (bare 0x02 two ∷ bare 0x04 (0x00 ∷ []) ∷ bare 0x05 (0x00 ∷ []) ∷ keyed 0xfb two ∷ [])) (Refused MissingCounts)
+    ∷ is (global_rule (keyed 0x02 two ∷ bare 0x04 (0x00 ∷ []) ∷ bare 0x05 (0x00 ∷ []) ∷ bare 0xfb two ∷ [])) (Err MissingCounts)
+    ∷ is (global_rule (bare 0x02 two ∷ keyed 0x04 (0x00 ∷ []) ∷ bare 0x05 (0x00 ∷ []) ∷ bare 0xfb two ∷ [])) (Err MissingCounts)
+    ∷ is (global_rule (bare 0x02 two ∷ bare 0x04 (0x00 ∷ []) ∷ keyed 0x05 (0x00 ∷ []) ∷ bare 0xfb two ∷ [])) (Err MissingCounts)
+    ∷ is (global_rule (bare 0x02 two ∷ bare 0x04 (0x00 ∷ []) ∷ bare 0x05 (0x00 ∷ []) ∷ keyed 0xfb two ∷ [])) (Err MissingCounts)
     -- none, and another type alone
-    ∷ is (global_rule []) (Refused MissingCounts)
-    ∷ is (global_rule (bare 0x03 (0x00 ∷ []) ∷ [])) (Refused MissingCounts)
+    ∷ is (global_rule []) (Err MissingCounts)
+    ∷ is (global_rule (bare 0x03 (0x00 ∷ []) ∷ [])) (Err MissingCounts)
     -- another version
-    ∷ is (global_rule (bare 0x02 two ∷ bare 0x04 (0x00 ∷ []) ∷ bare 0x05 (0x00 ∷ []) ∷ bare 0xfb (0x00 ∷ 0x00 ∷ 0x00 ∷ 0x00 ∷ []) ∷ [])) (Refused NotAllowed)
-    ∷ is (global_rule (bare 0x02 two ∷ bare 0x04 (0x00 ∷ []) ∷ bare 0x05 (0x00 ∷ []) ∷ bare 0xfb (0x01 ∷ 0x00 ∷ 0x00 ∷ 0x00 ∷ []) ∷ [])) (Refused NotAllowed)
-    ∷ is (global_rule (bare 0x02 two ∷ bare 0x04 (0x00 ∷ []) ∷ bare 0x05 (0x00 ∷ []) ∷ bare 0xfb (0x03 ∷ 0x00 ∷ 0x00 ∷ 0x00 ∷ []) ∷ [])) (Refused NotAllowed)
-    ∷ is (global_rule (bare 0x02 two ∷ bare 0x04 (0x00 ∷ []) ∷ bare 0x05 (0x00 ∷ []) ∷ bare 0xfb (0x02 ∷ 0x01 ∷ 0x00 ∷ 0x00 ∷ []) ∷ [])) (Refused NotAllowed)
-    ∷ is (global_rule (bare 0x02 two ∷ bare 0x04 (0x00 ∷ []) ∷ bare 0x05 (0x00 ∷ []) ∷ bare 0xfb (0x00 ∷ 0x00 ∷ 0x00 ∷ 0x02 ∷ []) ∷ [])) (Refused NotAllowed)
-    ∷ is (global_rule (bare 0x02 two ∷ bare 0x04 (0x00 ∷ []) ∷ bare 0x05 (0x00 ∷ []) ∷ bare 0xfb (0x02 ∷ 0x00 ∷ 0x00 ∷ 0x80 ∷ []) ∷ [])) (Refused NotAllowed)
-    ∷ is (global_rule (bare 0x02 two ∷ bare 0x04 (0x00 ∷ []) ∷ bare 0x05 (0x00 ∷ []) ∷ bare 0xfb (0xff ∷ 0xff ∷ 0xff ∷ 0xff ∷ []) ∷ [])) (Refused NotAllowed)
+    ∷ is (global_rule (bare 0x02 two ∷ bare 0x04 (0x00 ∷ []) ∷ bare 0x05 (0x00 ∷ []) ∷ bare 0xfb (0x00 ∷ 0x00 ∷ 0x00 ∷ 0x00 ∷ []) ∷ [])) (Err NotAllowed)
+    ∷ is (global_rule (bare 0x02 two ∷ bare 0x04 (0x00 ∷ []) ∷ bare 0x05 (0x00 ∷ []) ∷ bare 0xfb (0x01 ∷ 0x00 ∷ 0x00 ∷ 0x00 ∷ []) ∷ [])) (Err NotAllowed)
+    ∷ is (global_rule (bare 0x02 two ∷ bare 0x04 (0x00 ∷ []) ∷ bare 0x05 (0x00 ∷ []) ∷ bare 0xfb (0x03 ∷ 0x00 ∷ 0x00 ∷ 0x00 ∷ []) ∷ [])) (Err NotAllowed)
+    ∷ is (global_rule (bare 0x02 two ∷ bare 0x04 (0x00 ∷ []) ∷ bare 0x05 (0x00 ∷ []) ∷ bare 0xfb (0x02 ∷ 0x01 ∷ 0x00 ∷ 0x00 ∷ []) ∷ [])) (Err NotAllowed)
+    ∷ is (global_rule (bare 0x02 two ∷ bare 0x04 (0x00 ∷ []) ∷ bare 0x05 (0x00 ∷ []) ∷ bare 0xfb (0x00 ∷ 0x00 ∷ 0x00 ∷ 0x02 ∷ []) ∷ [])) (Err NotAllowed)
+    ∷ is (global_rule (bare 0x02 two ∷ bare 0x04 (0x00 ∷ []) ∷ bare 0x05 (0x00 ∷ []) ∷ bare 0xfb (0x02 ∷ 0x00 ∷ 0x00 ∷ 0x80 ∷ []) ∷ [])) (Err NotAllowed)
+    ∷ is (global_rule (bare 0x02 two ∷ bare 0x04 (0x00 ∷ []) ∷ bare 0x05 (0x00 ∷ []) ∷ bare 0xfb (0xff ∷ 0xff ∷ 0xff ∷ 0xff ∷ []) ∷ [])) (Err NotAllowed)
     -- missing ones before the version
-    ∷ is (global_rule (bare 0x04 (0x00 ∷ []) ∷ bare 0x05 (0x00 ∷ []) ∷ bare 0xfb (0x03 ∷ 0x00 ∷ 0x00 ∷ 0x00 ∷ []) ∷ [])) (Refused MissingCounts)
-    ∷ is (global_rule (bare 0x02 two ∷ bare 0x05 (0x00 ∷ []) ∷ bare 0xfb (0x03 ∷ 0x00 ∷ 0x00 ∷ 0x00 ∷ []) ∷ [])) (Refused MissingCounts)
-    ∷ is (global_rule (bare 0x02 two ∷ bare 0x04 (0x00 ∷ []) ∷ bare 0xfb (0x03 ∷ 0x00 ∷ 0x00 ∷ 0x00 ∷ []) ∷ [])) (Refused MissingCounts)
+    ∷ is (global_rule (bare 0x04 (0x00 ∷ []) ∷ bare 0x05 (0x00 ∷ []) ∷ bare 0xfb (0x03 ∷ 0x00 ∷ 0x00 ∷ 0x00 ∷ []) ∷ [])) (Err MissingCounts)
+    ∷ is (global_rule (bare 0x02 two ∷ bare 0x05 (0x00 ∷ []) ∷ bare 0xfb (0x03 ∷ 0x00 ∷ 0x00 ∷ 0x00 ∷ []) ∷ [])) (Err MissingCounts)
+    ∷ is (global_rule (bare 0x02 two ∷ bare 0x04 (0x00 ∷ []) ∷ bare 0xfb (0x03 ∷ 0x00 ∷ 0x00 ∷ 0x00 ∷ []) ∷ [])) (Err MissingCounts)
     ∷ []
 
 -- so it is ruled
@@ -131,22 +130,22 @@ low_flags = refl
 -- an output by low flags, script 04, code 09, label 0a: all sixteen cases
 unfoldable pub output_cases : List (Row Ruled)
 output_cases =
-    is (output_by false false false false) (Refused MissingOutputScript)
-    ∷ is (output_by false false false true) (Refused MissingOutputScript)
-    ∷ is (output_by false false true false) Passed
-    ∷ is (output_by false false true true) Passed
-    ∷ is (output_by false true false false) Passed
-    ∷ is (output_by false true false true) (Refused InvalidSilentPayment)
-    ∷ is (output_by false true true false) Passed
-    ∷ is (output_by false true true true) Passed
-    ∷ is (output_by true false false false) (Refused MissingOutputScript)
-    ∷ is (output_by true false false true) (Refused MissingOutputScript)
-    ∷ is (output_by true false true false) Passed
-    ∷ is (output_by true false true true) Passed
-    ∷ is (output_by true true false false) Passed
-    ∷ is (output_by true true false true) (Refused InvalidSilentPayment)
-    ∷ is (output_by true true true false) (Refused InvalidSilentPayment)
-    ∷ is (output_by true true true true) (Refused InvalidSilentPayment)
+    is (output_by false false false false) (Err MissingOutputScript)
+    ∷ is (output_by false false false true) (Err MissingOutputScript)
+    ∷ is (output_by false false true false) passed
+    ∷ is (output_by false false true true) passed
+    ∷ is (output_by false true false false) passed
+    ∷ is (output_by false true false true) (Err InvalidSilentPayment)
+    ∷ is (output_by false true true false) passed
+    ∷ is (output_by false true true true) passed
+    ∷ is (output_by true false false false) (Err MissingOutputScript)
+    ∷ is (output_by true false false true) (Err MissingOutputScript)
+    ∷ is (output_by true false true false) passed
+    ∷ is (output_by true false true true) passed
+    ∷ is (output_by true true false false) passed
+    ∷ is (output_by true true false true) (Err InvalidSilentPayment)
+    ∷ is (output_by true true true false) (Err InvalidSilentPayment)
+    ∷ is (output_by true true true true) (Err InvalidSilentPayment)
     ∷ []
 
 -- so outputs are ruled
@@ -161,24 +160,24 @@ map_of ps = record { pairs = ps; end = 0 ∷ [] }
 -- outputs by their pairs, with low flags or without; a key with data is neither script nor code
 unfoldable pub output_maps : List (Row Ruled)
 output_maps =
-    is (output_rule true []) (Refused MissingOutputScript)
-    ∷ is (output_rule true (bare 0x04 [] ∷ [])) Passed
-    ∷ is (output_rule true (bare 0x09 [] ∷ [])) Passed
-    ∷ is (output_rule true (bare 0x0a [] ∷ [])) (Refused MissingOutputScript)
-    ∷ is (output_rule true (bare 0x03 [] ∷ bare 0x05 [] ∷ bare 0x08 [] ∷ [])) (Refused MissingOutputScript)
-    ∷ is (output_rule true (keyed 0x04 [] ∷ [])) (Refused MissingOutputScript)
-    ∷ is (output_rule true (keyed 0x09 [] ∷ [])) (Refused MissingOutputScript)
-    ∷ is (output_rule true (bare 0x04 [] ∷ bare 0x09 [] ∷ [])) (Refused InvalidSilentPayment)
-    ∷ is (output_rule false (bare 0x04 [] ∷ bare 0x09 [] ∷ [])) Passed
-    ∷ is (output_rule false (bare 0x04 [] ∷ bare 0x0a [] ∷ [])) (Refused InvalidSilentPayment)
-    ∷ is (output_rule false (bare 0x09 [] ∷ bare 0x0a [] ∷ [])) Passed
+    is (output_rule true []) (Err MissingOutputScript)
+    ∷ is (output_rule true (bare 0x04 [] ∷ [])) passed
+    ∷ is (output_rule true (bare 0x09 [] ∷ [])) passed
+    ∷ is (output_rule true (bare 0x0a [] ∷ [])) (Err MissingOutputScript)
+    ∷ is (output_rule true (bare 0x03 [] ∷ bare 0x05 [] ∷ bare 0x08 [] ∷ [])) (Err MissingOutputScript)
+    ∷ is (output_rule true (keyed 0x04 [] ∷ [])) (Err MissingOutputScript)
+    ∷ is (output_rule true (keyed 0x09 [] ∷ [])) (Err MissingOutputScript)
+    ∷ is (output_rule true (bare 0x04 [] ∷ bare 0x09 [] ∷ [])) (Err InvalidSilentPayment)
+    ∷ is (output_rule false (bare 0x04 [] ∷ bare 0x09 [] ∷ [])) passed
+    ∷ is (output_rule false (bare 0x04 [] ∷ bare 0x0a [] ∷ [])) (Err InvalidSilentPayment)
+    ∷ is (output_rule false (bare 0x09 [] ∷ bare 0x0a [] ∷ [])) passed
     -- output by output, the first breach deciding
-    ∷ is (outputs_rule true []) Passed
-    ∷ is (outputs_rule true (map_of (bare 0x04 [] ∷ []) ∷ map_of (bare 0x09 [] ∷ []) ∷ [])) Passed
-    ∷ is (outputs_rule true (map_of (bare 0x04 [] ∷ []) ∷ map_of [] ∷ [])) (Refused MissingOutputScript)
-    ∷ is (outputs_rule true (map_of [] ∷ map_of (bare 0x04 [] ∷ bare 0x09 [] ∷ []) ∷ [])) (Refused MissingOutputScript)
-    ∷ is (outputs_rule true (map_of (bare 0x04 [] ∷ bare 0x09 [] ∷ []) ∷ map_of [] ∷ [])) (Refused InvalidSilentPayment)
-    ∷ is (outputs_rule false (map_of (bare 0x04 [] ∷ bare 0x09 [] ∷ []) ∷ map_of [] ∷ [])) (Refused MissingOutputScript)
+    ∷ is (outputs_rule true []) passed
+    ∷ is (outputs_rule true (map_of (bare 0x04 [] ∷ []) ∷ map_of (bare 0x09 [] ∷ []) ∷ [])) passed
+    ∷ is (outputs_rule true (map_of (bare 0x04 [] ∷ []) ∷ map_of [] ∷ [])) (Err MissingOutputScript)
+    ∷ is (outputs_rule true (map_of [] ∷ map_of (bare 0x04 [] ∷ bare 0x09 [] ∷ []) ∷ [])) (Err MissingOutputScript)
+    ∷ is (outputs_rule true (map_of (bare 0x04 [] ∷ bare 0x09 [] ∷ []) ∷ map_of [] ∷ [])) (Err InvalidSilentPayment)
+    ∷ is (outputs_rule false (map_of (bare 0x04 [] ∷ bare 0x09 [] ∷ []) ∷ map_of [] ∷ [])) (Err MissingOutputScript)
     ∷ []
 
 -- so they are ruled

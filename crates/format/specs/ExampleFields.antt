@@ -10,8 +10,7 @@ use Rattle.format.specs.Fields.{non_witness_utxo, witness_utxo_def, sighash_type
 use Rattle.format.specs.Fields.{previous_txid, output_index, sequence, required_time_locktime, required_height_locktime, sp_tweak}
 use Rattle.format.specs.Fields.{out_redeem_script, out_witness_script, amount, script, sp_v0_info, sp_v0_label}
 use Rattle.format.specs.Told.{Told, told_looked, told_numbered, told_listing}
-use Rattle.format.specs.declared.Looked.{Looked}
-use Rattle.format.specs.declared.Numbered.{Numbered}
+use Rattle.format.specs.Answers.{Looked, Numbered}
 
 -- a field that answers a place
 abbrev place_of : (List ℕ → Held → Looked) → Held → Told

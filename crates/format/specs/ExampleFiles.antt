@@ -1,8 +1,7 @@
 -- The files that examples are made of, E and F as the base prints them, and what E and F leave.
-use Rattle.std.specs.Prelude.{ℕ, ◌≡◌, refl, false, List, [], ◌∷◌, ◌++◌, length, replicate, pos}
+use Rattle.std.specs.Prelude.{ℕ, ◌≡◌, refl, false, List, [], ◌∷◌, ◌++◌, length, replicate, pos, None}
 use Rattle.format.specs.Numbers.{bytes_of}
 use Rattle.format.specs.Content.{magic}
-use Rattle.format.specs.declared.Maybe.TheVariants.{Absent}
 use Rattle.format.specs.declared.Psbt.{Psbt}
 use Rattle.format.specs.declared.State.{State}
 
@@ -148,11 +147,11 @@ fresh = record { set = false; written = false }
 
 -- what is reported of E
 abbrev pub psbt_e : Psbt
-psbt_e = record { tx_version = pos 2; fallback_locktime = Absent; tx_modifiable = Absent; inputs = 0; outputs = 0 }
+psbt_e = record { tx_version = pos 2; fallback_locktime = None; tx_modifiable = None; inputs = 0; outputs = 0 }
 
 -- what is reported of F
 abbrev pub psbt_f : Psbt
-psbt_f = record { tx_version = pos 2; fallback_locktime = Absent; tx_modifiable = Absent; inputs = 1; outputs = 1 }
+psbt_f = record { tx_version = pos 2; fallback_locktime = None; tx_modifiable = None; inputs = 1; outputs = 1 }
 
 -- the pair entries that E leaves, in a map entry 0 4
 abbrev pub pairs_e : List ℕ

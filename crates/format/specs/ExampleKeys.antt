@@ -4,8 +4,8 @@ use Rattle.format.specs.Rows.{Row, is, Hold}
 use Rattle.format.specs.Unfolds.{lookups}
 use Rattle.format.specs.Keys.{type_of, data_of, key_of, order, below, same}
 use Rattle.format.specs.Rules.{GLOBAL, INPUT, OUTPUT, listed}
-use Rattle.format.specs.declared.Order.{Order}
-use Rattle.format.specs.declared.Order.TheVariants.{Below, Same, Above}
+use Rattle.std.specs.declared.cmp.Ordering.{Ordering}
+use Rattle.std.specs.declared.cmp.Ordering.TheVariants.{Less, Equal, Greater}
 
 -- a key's type first, then its data; and both together again
 unfoldable pub taken : List (Row (List ℕ))
@@ -26,29 +26,29 @@ unfolding lookups taken
 keys_apart = refl
 
 -- how the first key stands to the second
-unfoldable pub orders : List (Row Order)
+unfoldable pub orders : List (Row Ordering)
 orders =
     -- nothing, and a prefix first
-    is (order [] []) Same
-    ∷ is (order [] (0x00 ∷ [])) Below
-    ∷ is (order (0x00 ∷ []) []) Above
-    ∷ is (order (0x04 ∷ []) (0x04 ∷ 0x00 ∷ [])) Below
-    ∷ is (order (0x04 ∷ 0x00 ∷ []) (0x04 ∷ [])) Above
+    is (order [] []) Equal
+    ∷ is (order [] (0x00 ∷ [])) Less
+    ∷ is (order (0x00 ∷ []) []) Greater
+    ∷ is (order (0x04 ∷ []) (0x04 ∷ 0x00 ∷ [])) Less
+    ∷ is (order (0x04 ∷ 0x00 ∷ []) (0x04 ∷ [])) Greater
     -- the first byte that differs decides, whatever follows
-    ∷ is (order (0x04 ∷ []) (0x05 ∷ [])) Below
-    ∷ is (order (0x05 ∷ []) (0x04 ∷ [])) Above
-    ∷ is (order (0x04 ∷ 0x09 ∷ 0x09 ∷ []) (0x05 ∷ [])) Below
-    ∷ is (order (0x05 ∷ []) (0x04 ∷ 0x09 ∷ 0x09 ∷ [])) Above
-    ∷ is (order (0x04 ∷ 0xff ∷ []) (0x05 ∷ 0x00 ∷ [])) Below
-    ∷ is (order (0x00 ∷ 0xff ∷ []) (0xff ∷ 0x00 ∷ [])) Below
-    ∷ is (order (0x01 ∷ 0x02 ∷ 0x03 ∷ []) (0x01 ∷ 0x02 ∷ 0x04 ∷ [])) Below
-    ∷ is (order (0x01 ∷ 0x03 ∷ 0x00 ∷ []) (0x01 ∷ 0x02 ∷ 0x09 ∷ [])) Above
-    ∷ is (order (0x01 ∷ 0x02 ∷ 0x04 ∷ []) (0x01 ∷ 0x02 ∷ 0x03 ∷ [])) Above
+    ∷ is (order (0x04 ∷ []) (0x05 ∷ [])) Less
+    ∷ is (order (0x05 ∷ []) (0x04 ∷ [])) Greater
+    ∷ is (order (0x04 ∷ 0x09 ∷ 0x09 ∷ []) (0x05 ∷ [])) Less
+    ∷ is (order (0x05 ∷ []) (0x04 ∷ 0x09 ∷ 0x09 ∷ [])) Greater
+    ∷ is (order (0x04 ∷ 0xff ∷ []) (0x05 ∷ 0x00 ∷ [])) Less
+    ∷ is (order (0x00 ∷ 0xff ∷ []) (0xff ∷ 0x00 ∷ [])) Less
+    ∷ is (order (0x01 ∷ 0x02 ∷ 0x03 ∷ []) (0x01 ∷ 0x02 ∷ 0x04 ∷ [])) Less
+    ∷ is (order (0x01 ∷ 0x03 ∷ 0x00 ∷ []) (0x01 ∷ 0x02 ∷ 0x09 ∷ [])) Greater
+    ∷ is (order (0x01 ∷ 0x02 ∷ 0x04 ∷ []) (0x01 ∷ 0x02 ∷ 0x03 ∷ [])) Greater
     -- equal
-    ∷ is (order (0x07 ∷ []) (0x07 ∷ [])) Same
-    ∷ is (order (0x01 ∷ 0x02 ∷ 0x03 ∷ []) (0x01 ∷ 0x02 ∷ 0x03 ∷ [])) Same
-    ∷ is (order (0x00 ∷ []) (0x00 ∷ [])) Same
-    ∷ is (order (0xff ∷ 0x00 ∷ []) (0xff ∷ 0x00 ∷ [])) Same
+    ∷ is (order (0x07 ∷ []) (0x07 ∷ [])) Equal
+    ∷ is (order (0x01 ∷ 0x02 ∷ 0x03 ∷ []) (0x01 ∷ 0x02 ∷ 0x03 ∷ [])) Equal
+    ∷ is (order (0x00 ∷ []) (0x00 ∷ [])) Equal
+    ∷ is (order (0xff ∷ 0x00 ∷ []) (0xff ∷ 0x00 ∷ [])) Equal
     ∷ []
 
 -- so keys are ordered

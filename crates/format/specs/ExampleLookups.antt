@@ -1,5 +1,5 @@
 -- Computed examples of lookups and listings in a map.
-use Rattle.std.specs.Prelude.{ℕ, refl, Bool, true, false, List, [], ◌∷◌}
+use Rattle.std.specs.Prelude.{ℕ, refl, Bool, true, false, List, [], ◌∷◌, Ok, Err, Some, None}
 use Rattle.format.specs.Rows.{Row, is, Hold}
 use Rattle.format.specs.Unfolds.{lookups}
 use Rattle.format.specs.Counting.{counting, entry, at, number, nothing, refused}
@@ -7,7 +7,7 @@ use Rattle.format.specs.Tables.{Held, no, holds}
 use Rattle.format.specs.Lookups.{any_length, exactly, key_list, length_fits, of_length_def, asked, look, part, number_at, list, nth, key_part, value_part}
 use Rattle.format.specs.Told.{Told, told, nat, told_looked, told_numbered, told_listing, told_nth}
 use Rattle.format.specs.declared.PsbtError.TheVariants.{BadValue, OutOfRange, BadIndex}
-use Rattle.format.specs.declared.Looked.TheVariants as K
+use Rattle.format.specs.Answers.{part_at}
 
 -- a map of four pairs: keys 2, 4, 4 5 and 7 8, values of 3, 0, 2 and 1 bytes
 abbrev four : Held
@@ -63,8 +63,8 @@ askings =
     ∷ is (told_looked (asked true (exactly 3) counting (4 ∷ 6 ∷ []) four)) nothing
     ∷ is (told_looked (asked true key_list counting (4 ∷ 6 ∷ []) four)) nothing
     -- a lookup's own refusal and its absence stay, whatever length would be right
-    ∷ is (told_looked (of_length_def (exactly 3) (K.Refused OutOfRange))) (refused 14)
-    ∷ is (told_looked (of_length_def (exactly 3) K.Absent)) nothing
+    ∷ is (told_looked (of_length_def (exactly 3) (Err OutOfRange))) (refused 14)
+    ∷ is (told_looked (of_length_def (exactly 3) (Ok None))) nothing
     -- no map has an empty key
     ∷ is (told_looked (asked true any_length counting [] four)) nothing
     ∷ is (told_looked (asked true any_length counting [] (holds []))) nothing
@@ -111,12 +111,12 @@ lengths_fit = refl
 -- the number that a place spells
 unfoldable pub numbers : List (Row Told)
 numbers =
-    is (told_numbered (number_at counting (K.At 1 2))) (number 0x0201)
-    ∷ is (told_numbered (number_at counting (K.At 7 4))) (number 0x0a09_0807)
-    ∷ is (told_numbered (number_at counting (K.At 0 1))) (number 0)
-    ∷ is (told_numbered (number_at counting (K.At 5 0))) (number 0)
-    ∷ is (told_numbered (number_at counting K.Absent)) nothing
-    ∷ is (told_numbered (number_at counting (K.Refused BadValue))) (refused 7)
+    is (told_numbered (number_at counting (Ok (Some (part_at 1 2))))) (number 0x0201)
+    ∷ is (told_numbered (number_at counting (Ok (Some (part_at 7 4))))) (number 0x0a09_0807)
+    ∷ is (told_numbered (number_at counting (Ok (Some (part_at 0 1))))) (number 0)
+    ∷ is (told_numbered (number_at counting (Ok (Some (part_at 5 0))))) (number 0)
+    ∷ is (told_numbered (number_at counting (Ok None))) nothing
+    ∷ is (told_numbered (number_at counting (Err BadValue))) (refused 7)
     ∷ []
 
 -- so numbers are spelled
@@ -127,12 +127,12 @@ places_spell = refl
 -- the part of the file that is handed back: empty for absence and refusal
 unfoldable pub parts : List (Row (List ℕ))
 parts =
-    is (part counting (K.At 1 2)) (1 ∷ 2 ∷ [])
-    ∷ is (part counting (K.At 5 0)) []
-    ∷ is (part counting (K.At 130 2)) (130 ∷ 131 ∷ [])
+    is (part counting (Ok (Some (part_at 1 2)))) (1 ∷ 2 ∷ [])
+    ∷ is (part counting (Ok (Some (part_at 5 0)))) []
+    ∷ is (part counting (Ok (Some (part_at 130 2)))) (130 ∷ 131 ∷ [])
     ∷ is (part counting (look counting 0x04 (5 ∷ []) four)) (1 ∷ 2 ∷ [])
-    ∷ is (part counting K.Absent) []
-    ∷ is (part counting (K.Refused BadValue)) []
+    ∷ is (part counting (Ok None)) []
+    ∷ is (part counting (Err BadValue)) []
     -- the key and the value of a pair
     ∷ is (key_part counting (nth 3 four)) (7 ∷ 8 ∷ [])
     ∷ is (value_part counting (nth 3 four)) (9 ∷ [])

@@ -1,10 +1,9 @@
 -- Maps that examples are made of: pairs spelled by a type and a value, what maps show one by one, and what is reported.
-use Rattle.std.specs.Prelude.{ℕ, zero, suc, List, [], ◌∷◌, length, replicate, pos}
+use Rattle.std.specs.Prelude.{ℕ, zero, suc, List, [], ◌∷◌, length, replicate, pos, None}
 use Rattle.format.specs.Content.{Pair}
 use Rattle.format.specs.Tables.{View, hides, shows}
 use Rattle.format.specs.declared.PsbtError.TheVariants.{OutOfRange}
-use Rattle.format.specs.declared.Maybe.{Maybe}
-use Rattle.format.specs.declared.Maybe.TheVariants.{Absent}
+use Rattle.format.specs.Answers.{Maybe}
 use Rattle.format.specs.declared.Psbt.{Psbt}
 
 -- a pair of a type without key data
@@ -19,7 +18,7 @@ views (v ∷ vs) (suc i) = views vs i
 
 -- a report of transaction version 2, with a fallback and so many inputs and outputs
 abbrev pub reporting : Maybe → ℕ → ℕ → Psbt
-reporting f n m = record { tx_version = pos 2; fallback_locktime = f; tx_modifiable = Absent; inputs = n; outputs = m }
+reporting f n m = record { tx_version = pos 2; fallback_locktime = f; tx_modifiable = None; inputs = n; outputs = m }
 
 -- a taproot script: 51 20 and 32 bytes b
 abbrev pub taproot_script : ℕ → List ℕ

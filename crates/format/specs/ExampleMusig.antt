@@ -1,5 +1,5 @@
 -- Computed examples of MuSig2 lookups: nonces, partial signatures, participants.
-use Rattle.std.specs.Prelude.{ℕ, ◌+◌, ◌-◌, refl, List, [], ◌∷◌, ◌++◌}
+use Rattle.std.specs.Prelude.{ℕ, ◌+◌, ◌-◌, refl, List, [], ◌∷◌, ◌++◌, Ok, Err, Some, None}
 use Rattle.format.specs.Rows.{Row, is, Hold}
 use Rattle.format.specs.Unfolds.{lookups}
 use Rattle.format.specs.Counting.{counting, bytes_at, input_pair, output_pair, at, number, nothing, refused}
@@ -7,8 +7,7 @@ use Rattle.format.specs.Tables.{Held}
 use Rattle.format.specs.Fields.{pub_nonce, partial_sig, input_participants, output_participants, participant_count, participant}
 use Rattle.format.specs.Told.{Told, told_looked, told_numbered}
 use Rattle.format.specs.declared.PsbtError.TheVariants.{BadValue, BadIndex}
-use Rattle.format.specs.declared.Looked.{Looked}
-use Rattle.format.specs.declared.Looked.TheVariants as K
+use Rattle.format.specs.Answers.{part_at, Looked}
 
 -- a lookup of type t whose value is w bytes: participant, aggregate and leaf hash stand behind the type in the counting file, the value begins at 5
 abbrev signing : (List ℕ → List ℕ → List ℕ → List ℕ → Held → Looked) → ℕ → ℕ → List (Row Told)
@@ -119,12 +118,12 @@ participant_lists = refl
 -- how many keys of 33 bytes
 unfoldable pub key_counts : List (Row Told)
 key_counts =
-    is (told_numbered (participant_count (K.At 3 33))) (number 1)
-    ∷ is (told_numbered (participant_count (K.At 3 66))) (number 2)
-    ∷ is (told_numbered (participant_count (K.At 3 99))) (number 3)
-    ∷ is (told_numbered (participant_count (K.At 3 1056))) (number 32)
-    ∷ is (told_numbered (participant_count K.Absent)) nothing
-    ∷ is (told_numbered (participant_count (K.Refused BadValue))) (refused 7)
+    is (told_numbered (participant_count (Ok (Some (part_at 3 33))))) (number 1)
+    ∷ is (told_numbered (participant_count (Ok (Some (part_at 3 66))))) (number 2)
+    ∷ is (told_numbered (participant_count (Ok (Some (part_at 3 99))))) (number 3)
+    ∷ is (told_numbered (participant_count (Ok (Some (part_at 3 1056))))) (number 32)
+    ∷ is (told_numbered (participant_count (Ok None))) nothing
+    ∷ is (told_numbered (participant_count (Err BadValue))) (refused 7)
     ∷ is (told_numbered (participant_count (input_participants counting (bytes_at 27 33) [] (input_pair 0 0x1a 34 3 66)))) (number 2)
     ∷ is (told_numbered (participant_count (output_participants counting (bytes_at 9 33) (output_pair 0 0x08 34 3 99)))) (number 3)
     ∷ is (told_numbered (participant_count (input_participants counting (bytes_at 27 33) [] (input_pair 0 0x1a 34 3 65)))) (refused 7)
@@ -141,15 +140,15 @@ participants_counted = refl
 unfoldable pub keys_by_number : List (Row Told)
 keys_by_number =
     -- 33 bytes each, in order, up to the last
-    is (told_looked (participant 0 (K.At 3 33))) (at 3 33)
-    ∷ is (told_looked (participant 1 (K.At 3 33))) (refused 14)
-    ∷ is (told_looked (participant 0 (K.At 3 66))) (at 3 33)
-    ∷ is (told_looked (participant 1 (K.At 3 66))) (at 36 33)
-    ∷ is (told_looked (participant 2 (K.At 3 66))) (refused 14)
-    ∷ is (told_looked (participant 2 (K.At 3 99))) (at 69 33)
-    ∷ is (told_looked (participant 3 (K.At 3 99))) (refused 14)
-    ∷ is (told_looked (participant 31 (K.At 3 1056))) (at 1026 33)
-    ∷ is (told_looked (participant 32 (K.At 3 1056))) (refused 14)
+    is (told_looked (participant 0 (Ok (Some (part_at 3 33))))) (at 3 33)
+    ∷ is (told_looked (participant 1 (Ok (Some (part_at 3 33))))) (refused 14)
+    ∷ is (told_looked (participant 0 (Ok (Some (part_at 3 66))))) (at 3 33)
+    ∷ is (told_looked (participant 1 (Ok (Some (part_at 3 66))))) (at 36 33)
+    ∷ is (told_looked (participant 2 (Ok (Some (part_at 3 66))))) (refused 14)
+    ∷ is (told_looked (participant 2 (Ok (Some (part_at 3 99))))) (at 69 33)
+    ∷ is (told_looked (participant 3 (Ok (Some (part_at 3 99))))) (refused 14)
+    ∷ is (told_looked (participant 31 (Ok (Some (part_at 3 1056))))) (at 1026 33)
+    ∷ is (told_looked (participant 32 (Ok (Some (part_at 3 1056))))) (refused 14)
     ∷ is (told_looked (participant 1 (input_participants counting (bytes_at 27 33) [] (input_pair 0 0x1a 34 3 66)))) (at 36 33)
     ∷ is (told_looked (participant 2 (output_participants counting (bytes_at 9 33) (output_pair 0 0x08 34 3 99)))) (at 69 33)
     -- past the list
@@ -158,16 +157,16 @@ keys_by_number =
     ∷ is (told_looked (participant 1 (input_participants counting (bytes_at 27 33) [] (input_pair 0 0x1a 34 3 33)))) (refused 14)
     ∷ is (told_looked (participant 0xffff_ffff (input_participants counting (bytes_at 27 33) [] (input_pair 0 0x1a 34 3 66)))) (refused 14)
     -- absence and the list before the number; the map before both
-    ∷ is (told_looked (participant 9 K.Absent)) nothing
-    ∷ is (told_looked (participant 0 K.Absent)) nothing
+    ∷ is (told_looked (participant 9 (Ok None))) nothing
+    ∷ is (told_looked (participant 0 (Ok None))) nothing
     ∷ is (told_looked (participant 9 (input_participants counting (bytes_at 27 33) [] (input_pair 0 0x1b 34 3 66)))) nothing
-    ∷ is (told_looked (participant 9 (K.Refused BadValue))) (refused 7)
+    ∷ is (told_looked (participant 9 (Err BadValue))) (refused 7)
     ∷ is (told_looked (participant 0 (input_participants counting (bytes_at 27 33) [] (input_pair 0 0x1a 34 3 0)))) (refused 7)
     ∷ is (told_looked (participant 9 (input_participants counting (bytes_at 27 33) [] (input_pair 0 0x1a 34 3 65)))) (refused 7)
     ∷ is (told_looked (participant 9 (output_participants counting (bytes_at 9 33) (output_pair 0 0x08 34 3 65)))) (refused 7)
     ∷ is (told_looked (participant 0 (input_participants counting (bytes_at 27 33) [] (input_pair 1 0x1a 34 3 33)))) (refused 14)
-    ∷ is (told_looked (participant 0 (K.Refused BadIndex))) (refused 24)
-    ∷ is (told_looked (participant 9 (K.Refused BadIndex))) (refused 24)
+    ∷ is (told_looked (participant 0 (Err BadIndex))) (refused 24)
+    ∷ is (told_looked (participant 9 (Err BadIndex))) (refused 24)
     ∷ []
 
 -- so they are numbered

@@ -1,5 +1,5 @@
 -- Computed examples of an output's script: in the file, in the script table, absent or refused; and the part that stands there.
-use Rattle.std.specs.Prelude.{ℕ, refl, true, false, List, [], ◌∷◌, ◌++◌, replicate}
+use Rattle.std.specs.Prelude.{ℕ, refl, true, false, List, [], ◌∷◌, ◌++◌, replicate, Ok, Err, Some, None}
 use Rattle.format.specs.Rows.{Row, is, Hold}
 use Rattle.format.specs.Tables.{held_output, Held, no, holds}
 use Rattle.format.specs.Lookups.{place}
@@ -10,7 +10,7 @@ use Rattle.format.specs.ExampleMaps.{taproot_script}
 use Rattle.format.specs.Computed.{computes}
 use Rattle.format.specs.declared.PsbtError.TheVariants.{OutOfRange, BadIndex}
 use Rattle.format.specs.declared.State.{State}
-use Rattle.format.specs.declared.OutputScript.TheVariants as O
+use Rattle.format.specs.declared.ScriptPlace.TheVariants as O
 
 -- scripts were set
 abbrev served : State
@@ -78,11 +78,11 @@ script_places = refl
 -- the part that stands there: of the file, of the script table, none
 unfoldable pub parts : List (Row (List ℕ))
 parts =
-    is (script_part file_f [] (O.InFile 85 1)) (0x51 ∷ [])
-    ∷ is (script_part plain_file two (O.InFile 7 2)) (6 ∷ 7 ∷ [])
-    ∷ is (script_part plain_file two (O.InTable 36 34)) (taproot_script 7)
-    ∷ is (script_part plain_file two O.Absent) []
-    ∷ is (script_part plain_file two (O.Refused BadIndex)) []
+    is (script_part file_f [] (Ok (Some (O.InFile 85 1)))) (0x51 ∷ [])
+    ∷ is (script_part plain_file two (Ok (Some (O.InFile 7 2)))) (6 ∷ 7 ∷ [])
+    ∷ is (script_part plain_file two (Ok (Some (O.InTable 36 34)))) (taproot_script 7)
+    ∷ is (script_part plain_file two (Ok None)) []
+    ∷ is (script_part plain_file two (Err BadIndex)) []
     ∷ []
 
 -- so it is handed back

@@ -1,9 +1,9 @@
 -- Computed examples of the setter: the assignments as given, the table as it is left, each cause of 19, and what is refused first.
-use Rattle.std.specs.Prelude.{ℕ, refl, Bool, true, false, List, [], ◌∷◌, ◌++◌, length, replicate}
+use Rattle.std.specs.Prelude.{ℕ, refl, Bool, true, false, List, [], ◌∷◌, ◌++◌, length, replicate, None}
 use Rattle.format.specs.Rows.{Row, is, Hold}
 use Rattle.format.specs.Refusals.{number_of}
 use Rattle.format.specs.Tests.{only, every}
-use Rattle.format.specs.Keys.{order, same, is_same_def, key_of}
+use Rattle.format.specs.Keys.{order, same, key_of}
 use Rattle.format.specs.Content.{absent, found, present, find, field}
 use Rattle.format.specs.Tables.{View, hides, shows, gather_by, gather, maps_reported}
 use Rattle.format.specs.Locks.{missing, misfit, is as bytes, sized_to, in_of}
@@ -13,7 +13,6 @@ use Rattle.format.specs.Told.{told, flag, told_set, ToldOut, told_left, told_set
 use Rattle.format.specs.ExampleFiles.{fresh}
 use Rattle.format.specs.ExampleMaps.{pair_of, views, reporting, taproot_script, plain_out, silent_out}
 use Rattle.format.specs.declared.PsbtError.TheVariants.{BadIndex}
-use Rattle.format.specs.declared.Maybe.TheVariants.{Absent}
 use Rattle.format.specs.declared.State.{State}
 use Rattle.format.specs.declared.Assignment.{Assignment}
 
@@ -30,7 +29,7 @@ outputs =
 
 -- so an output's pairs are taken
 pub output_fields : Hold outputs
-unfolding order same is_same_def key_of find field sized_to out_of outputs
+unfolding order same key_of find field sized_to out_of outputs
 output_fields = refl
 
 -- an assignment
@@ -70,15 +69,15 @@ shapes =
 
 -- so a taproot script is told from others
 pub taproot_shapes : Hold shapes
-unfolding order same is_same_def taproot shapes
+unfolding order same taproot shapes
 taproot_shapes = refl
 
 -- the setter on outputs behind a global map and an input, with numbers given by threes
 unfoldable pub sets : List View → List ℕ → List ℕ → State → List ℕ → ToldOut
-unfolding number_of only every order same is_same_def key_of present find field gather_by gather maps_reported sized_to in_of out_of reported_by reported
+unfolding number_of only every order same key_of present find field gather_by gather maps_reported sized_to in_of out_of reported_by reported
     script_in taproot allowed named served and_more flat entry_for entries_for right_for settable after_set set_table set_given set_by set_scripts told_set
     told_set_out views
-sets outs xs buffer t T = told_set_out (set_scripts (views (shows [] ∷ shows [] ∷ outs)) (reporting Absent 1 (length outs)) (flat xs) buffer t T)
+sets outs xs buffer t T = told_set_out (set_scripts (views (shows [] ∷ shows [] ∷ outs)) (reporting None 1 (length outs)) (flat xs) buffer t T)
 
 -- set, and the table
 abbrev done : List ℕ → ToldOut
@@ -162,9 +161,9 @@ each_cause_of_19 = refl
 unfoldable pub order_of_refusals : List (Row ToldOut)
 order_of_refusals =
     -- an unfit map, whichever it is: before a state that forbids, a cut list, a table without room
-    is (told_set_out (set_scripts (views (hides BadIndex ∷ silent_out ∷ [])) (reporting Absent 0 1) (flat (0 ∷ 1 ∷ 34 ∷ [])) scripts fresh (replicate 70 9)))
+    is (told_set_out (set_scripts (views (hides BadIndex ∷ silent_out ∷ [])) (reporting None 0 1) (flat (0 ∷ 1 ∷ 34 ∷ [])) scripts fresh (replicate 70 9)))
     (refuses 24)
-    ∷ is (told_set_out (set_scripts (views (shows [] ∷ hides BadIndex ∷ silent_out ∷ [])) (reporting Absent 1 1)
+    ∷ is (told_set_out (set_scripts (views (shows [] ∷ hides BadIndex ∷ silent_out ∷ [])) (reporting None 1 1)
     (flat (0 ∷ 1 ∷ 34 ∷ [])) scripts fresh (replicate 70 9))) (refuses 24)
     ∷ is (sets (silent_out ∷ hides BadIndex ∷ []) (0 ∷ 1 ∷ 34 ∷ []) scripts fresh (replicate 70 9)) (refuses 24)
     ∷ is (sets (hides BadIndex ∷ []) [] [] (record { set = true; written = true }) (replicate 70 9)) (refuses 24)

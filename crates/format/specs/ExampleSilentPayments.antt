@@ -6,7 +6,7 @@ use Rattle.format.specs.Counting.{counting, bytes_at, global_pair, input_pair, a
 use Rattle.format.specs.Tables.{Held}
 use Rattle.format.specs.Fields.{global_share, global_proof, input_share, input_proof}
 use Rattle.format.specs.Told.{Told, told_looked}
-use Rattle.format.specs.declared.Looked.{Looked}
+use Rattle.format.specs.Answers.{Looked}
 
 -- a lookup of type t by a scan key of n bytes, those behind the type, in a map of one pair
 abbrev by : (List ℕ → List ℕ → Held → Looked) → ℕ → ℕ → Held → Told

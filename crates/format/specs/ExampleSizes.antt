@@ -1,15 +1,14 @@
 -- Computed examples of the rule of sizes: every row of its table, and the types that have none.
-use Rattle.std.specs.Prelude.{ℕ, ◌+◌, ◌-◌, refl, List, [], ◌∷◌}
+use Rattle.std.specs.Prelude.{ℕ, ◌+◌, ◌-◌, refl, List, [], ◌∷◌, Err}
 use Rattle.format.specs.Rows.{Row, is, Hold}
 use Rattle.format.specs.Unfolds.{lookups}
 use Rattle.format.specs.Rules.{GLOBAL, INPUT, OUTPUT, sizes}
 use Rattle.format.specs.declared.PsbtError.TheVariants.{BadValue}
-use Rattle.format.specs.declared.Ruled.{Ruled}
-use Rattle.format.specs.declared.Ruled.TheVariants.{Passed, Refused}
+use Rattle.format.specs.Answers.{passed, Ruled}
 
 -- a breach
 abbrev bad : Ruled
-bad = Refused BadValue
+bad = Err BadValue
 
 -- a type of a kind, n bytes of key data: values of m bytes, one less, one more, and none
 abbrev around : ℕ → ℕ → ℕ → ℕ → List Ruled
@@ -17,7 +16,7 @@ around k t n m = sizes k t n m ∷ sizes k t n (m - 1) ∷ sizes k t n (m + 1) �
 
 -- only the first of them has the right length
 abbrev right : List Ruled
-right = Passed ∷ bad ∷ bad ∷ bad ∷ []
+right = passed ∷ bad ∷ bad ∷ bad ∷ []
 
 -- none of them passes
 abbrev wrong : List Ruled
@@ -25,7 +24,7 @@ wrong = bad ∷ bad ∷ bad ∷ bad ∷ []
 
 -- all of them pass
 abbrev free : List Ruled
-free = Passed ∷ Passed ∷ Passed ∷ Passed ∷ []
+free = passed ∷ passed ∷ passed ∷ passed ∷ []
 
 -- sized types, their right length of key data, one byte less and more, and none: the sizes hold whatever the key data
 unfoldable pub sized : List (Row (List Ruled))
@@ -68,15 +67,15 @@ origins =
     is (sizes INPUT 0x1f 33 0) bad
     ∷ is (sizes INPUT 0x1f 33 1) bad
     ∷ is (sizes INPUT 0x1f 33 3) bad
-    ∷ is (sizes INPUT 0x1f 33 4) Passed
+    ∷ is (sizes INPUT 0x1f 33 4) passed
     ∷ is (sizes INPUT 0x1f 33 5) bad
     ∷ is (sizes INPUT 0x1f 33 6) bad
     ∷ is (sizes INPUT 0x1f 33 7) bad
-    ∷ is (sizes INPUT 0x1f 33 8) Passed
+    ∷ is (sizes INPUT 0x1f 33 8) passed
     ∷ is (sizes INPUT 0x1f 33 9) bad
-    ∷ is (sizes INPUT 0x1f 33 12) Passed
+    ∷ is (sizes INPUT 0x1f 33 12) passed
     ∷ is (sizes INPUT 0x1f 33 33) bad
-    ∷ is (sizes INPUT 0x1f 33 64) Passed
+    ∷ is (sizes INPUT 0x1f 33 64) passed
     ∷ is (sizes INPUT 0x1f 0 0) bad
     ∷ is (sizes INPUT 0x1f 0 4) bad
     ∷ is (sizes INPUT 0x1f 0 5) bad

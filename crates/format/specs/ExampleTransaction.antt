@@ -1,5 +1,5 @@
 -- Computed examples of the unsigned transaction: its bytes, the scripts set, each refusal, the order of refusals, and the buffer as it is left.
-use Rattle.std.specs.Prelude.{ℕ, refl, Bool, true, false, List, [], ◌∷◌, ◌++◌, replicate, ℤ, pos, negsuc}
+use Rattle.std.specs.Prelude.{ℕ, refl, Bool, true, false, List, [], ◌∷◌, ◌++◌, replicate, ℤ, pos, negsuc, Some, None}
 use Rattle.format.specs.Rows.{Row, is, Hold}
 use Rattle.format.specs.Content.{absent, found}
 use Rattle.format.specs.Tables.{View, hides, shows}
@@ -11,7 +11,6 @@ use Rattle.format.specs.ExampleFiles.{fresh}
 use Rattle.format.specs.ExampleMaps.{pair_of, views, reporting, taproot_script, plain_out, silent_out}
 use Rattle.format.specs.Computed.{computes}
 use Rattle.format.specs.declared.PsbtError.TheVariants.{BadValue, MissingOutputScript, BadIndex}
-use Rattle.format.specs.declared.Maybe.TheVariants.{Absent, Present}
 use Rattle.format.specs.declared.Psbt.{Psbt}
 use Rattle.format.specs.declared.State.{State}
 
@@ -80,12 +79,12 @@ tiny_out = record { amount = bytes []; script = found [] }
 
 -- a report with a transaction version
 abbrev versioned : ℤ → Psbt
-versioned z = record { tx_version = z; fallback_locktime = Absent; tx_modifiable = Absent; inputs = 0; outputs = 0 }
+versioned z = record { tx_version = z; fallback_locktime = None; tx_modifiable = None; inputs = 0; outputs = 0 }
 
 -- the bytes, field by field: version (signed), input count, inputs, output count, outputs, lock time; counts and lengths the shortest
 unfoldable pub layouts : List (Row Tx)
 layouts =
-    is (transaction (reporting Absent 0 0) [] [] []) (writes (2 ∷ 0 ∷ 0 ∷ 0 ∷ 0 ∷ 0 ∷ 0 ∷ 0 ∷ 0 ∷ 0 ∷ []))
+    is (transaction (reporting None 0 0) [] [] []) (writes (2 ∷ 0 ∷ 0 ∷ 0 ∷ 0 ∷ 0 ∷ 0 ∷ 0 ∷ 0 ∷ 0 ∷ []))
     -- versions: 1, the greatest, -1, -2, the least
     ∷ is (transaction (versioned (pos 1)) [] [] []) (writes (1 ∷ 0 ∷ 0 ∷ 0 ∷ 0 ∷ 0 ∷ 0 ∷ 0 ∷ 0 ∷ 0 ∷ []))
     ∷ is (transaction (versioned (pos 0x7fff_ffff)) [] [] []) (writes (0xff ∷ 0xff ∷ 0xff ∷ 0x7f ∷ 0 ∷ 0 ∷ 0 ∷ 0 ∷ 0 ∷ 0 ∷ []))
@@ -93,32 +92,32 @@ layouts =
     ∷ is (transaction (versioned (negsuc 1)) [] [] []) (writes (0xfe ∷ 0xff ∷ 0xff ∷ 0xff ∷ 0 ∷ 0 ∷ 0 ∷ 0 ∷ 0 ∷ 0 ∷ []))
     ∷ is (transaction (versioned (negsuc 0x7fff_ffff)) [] [] []) (writes (0x00 ∷ 0x00 ∷ 0x00 ∷ 0x80 ∷ 0 ∷ 0 ∷ 0 ∷ 0 ∷ 0 ∷ 0 ∷ []))
     -- inputs: txid, index, 00, sequence; an absent sequence is ffffffff
-    ∷ is (transaction (reporting Absent 2 0)
+    ∷ is (transaction (reporting None 2 0)
     (input (bytes (5 ∷ [])) (bytes (6 ∷ [])) (bytes (7 ∷ [])) ∷ input (bytes (8 ∷ [])) (bytes (9 ∷ [])) missing ∷ []) [] [])
     (writes (2 ∷ 0 ∷ 0 ∷ 0 ∷ 2 ∷ 5 ∷ 6 ∷ 0 ∷ 7 ∷ 8 ∷ 9 ∷ 0 ∷ 0xff ∷ 0xff ∷ 0xff ∷ 0xff ∷ 0 ∷ 0 ∷ 0 ∷ 0 ∷ 0 ∷ []))
     -- outputs: amount, script length, script
-    ∷ is (transaction (reporting Absent 0 2)
+    ∷ is (transaction (reporting None 0 2)
     [] (record { amount = bytes (5 ∷ []); script = found (6 ∷ 7 ∷ []) } ∷ record { amount = bytes (8 ∷ []); script = found [] } ∷ []) [])
     (writes (2 ∷ 0 ∷ 0 ∷ 0 ∷ 0 ∷ 2 ∷ 5 ∷ 2 ∷ 6 ∷ 7 ∷ 8 ∷ 0 ∷ 0 ∷ 0 ∷ 0 ∷ 0 ∷ []))
     -- a script set, one of 04 before one set
-    ∷ is (transaction (reporting Absent 0 1) [] (record { amount = bytes (5 ∷ []); script = absent } ∷ []) (entry 7))
+    ∷ is (transaction (reporting None 0 1) [] (record { amount = bytes (5 ∷ []); script = absent } ∷ []) (entry 7))
     (writes (2 ∷ 0 ∷ 0 ∷ 0 ∷ 0 ∷ 1 ∷ 5 ∷ 34 ∷ (taproot_script 7 ++ (0 ∷ 0 ∷ 0 ∷ 0 ∷ []))))
-    ∷ is (transaction (reporting Absent 0 2) [] (record { amount = bytes (5 ∷ []); script = found (6 ∷ []) } ∷ bare ∷ []) (entry 7 ++ entry 8))
+    ∷ is (transaction (reporting None 0 2) [] (record { amount = bytes (5 ∷ []); script = found (6 ∷ []) } ∷ bare ∷ []) (entry 7 ++ entry 8))
     (writes (2 ∷ 0 ∷ 0 ∷ 0 ∷ 0 ∷ 2 ∷ 5 ∷ 1 ∷ 6 ∷ 34 ∷ (taproot_script 8 ++ (0 ∷ 0 ∷ 0 ∷ 0 ∷ []))))
     -- the lock time: the fallback, a height before it
-    ∷ is (transaction (reporting (Present 0x0403_0201) 0 0) [] [] []) (writes (2 ∷ 0 ∷ 0 ∷ 0 ∷ 0 ∷ 0 ∷ 1 ∷ 2 ∷ 3 ∷ 4 ∷ []))
-    ∷ is (transaction (reporting (Present 0x0403_0201) 1 0)
+    ∷ is (transaction (reporting (Some 0x0403_0201) 0 0) [] [] []) (writes (2 ∷ 0 ∷ 0 ∷ 0 ∷ 0 ∷ 0 ∷ 1 ∷ 2 ∷ 3 ∷ 4 ∷ []))
+    ∷ is (transaction (reporting (Some 0x0403_0201) 1 0)
     (record { txid = bytes []; index = bytes []; sequence = bytes []; time = missing; height = bytes (5 ∷ 0 ∷ 0 ∷ 0 ∷ []) } ∷ []) [] [])
     (writes (2 ∷ 0 ∷ 0 ∷ 0 ∷ 1 ∷ 0 ∷ 0 ∷ 5 ∷ 0 ∷ 0 ∷ 0 ∷ []))
     -- counts and lengths of 252 and of 253
-    ∷ is (transaction (reporting Absent 252 0) (replicate 252 tiny) [] []) (writes (2 ∷ 0 ∷ 0 ∷ 0 ∷ 252 ∷ (replicate 252 0 ++ (0 ∷ 0 ∷ 0 ∷ 0 ∷ 0 ∷ []))))
-    ∷ is (transaction (reporting Absent 253 0)
+    ∷ is (transaction (reporting None 252 0) (replicate 252 tiny) [] []) (writes (2 ∷ 0 ∷ 0 ∷ 0 ∷ 252 ∷ (replicate 252 0 ++ (0 ∷ 0 ∷ 0 ∷ 0 ∷ 0 ∷ []))))
+    ∷ is (transaction (reporting None 253 0)
     (replicate 253 tiny) [] []) (writes (2 ∷ 0 ∷ 0 ∷ 0 ∷ 0xfd ∷ 253 ∷ 0 ∷ (replicate 253 0 ++ (0 ∷ 0 ∷ 0 ∷ 0 ∷ 0 ∷ []))))
-    ∷ is (transaction (reporting Absent 0 253) [] (replicate 253 tiny_out)
+    ∷ is (transaction (reporting None 0 253) [] (replicate 253 tiny_out)
     []) (writes (2 ∷ 0 ∷ 0 ∷ 0 ∷ 0 ∷ 0xfd ∷ 253 ∷ 0 ∷ (replicate 253 0 ++ (0 ∷ 0 ∷ 0 ∷ 0 ∷ []))))
-    ∷ is (transaction (reporting Absent 0 1) [] (record { amount = bytes []; script = found (replicate 252 6) } ∷ []) [])
+    ∷ is (transaction (reporting None 0 1) [] (record { amount = bytes []; script = found (replicate 252 6) } ∷ []) [])
     (writes (2 ∷ 0 ∷ 0 ∷ 0 ∷ 0 ∷ 1 ∷ 252 ∷ (replicate 252 6 ++ (0 ∷ 0 ∷ 0 ∷ 0 ∷ []))))
-    ∷ is (transaction (reporting Absent 0 1) [] (record { amount = bytes []; script = found (replicate 253 6) } ∷ []) [])
+    ∷ is (transaction (reporting None 0 1) [] (record { amount = bytes []; script = found (replicate 253 6) } ∷ []) [])
     (writes (2 ∷ 0 ∷ 0 ∷ 0 ∷ 0 ∷ 1 ∷ 0xfd ∷ 253 ∷ 0 ∷ (replicate 253 6 ++ (0 ∷ 0 ∷ 0 ∷ 0 ∷ []))))
     ∷ []
 
@@ -134,30 +133,30 @@ hollow = record { amount = missing; script = absent }
 -- fields that are missing or of a wrong length, and which comes first: the lock, inputs in order, outputs in order, of an output the amount
 unfoldable pub lacks : List (Row Tx)
 lacks =
-    is (transaction (reporting Absent 1 0) (input missing (bytes []) (bytes []) ∷ []) [] []) (refuses BadValue)
-    ∷ is (transaction (reporting Absent 1 0) (input misfit (bytes []) (bytes []) ∷ []) [] []) (refuses BadValue)
-    ∷ is (transaction (reporting Absent 1 0) (input (bytes []) missing (bytes []) ∷ []) [] []) (refuses BadValue)
-    ∷ is (transaction (reporting Absent 1 0) (input (bytes []) misfit (bytes []) ∷ []) [] []) (refuses BadValue)
-    ∷ is (transaction (reporting Absent 1 0) (input (bytes []) (bytes []) misfit ∷ []) [] []) (refuses BadValue)
-    ∷ is (transaction (reporting Absent 2 0) (tiny ∷ input missing (bytes []) (bytes []) ∷ []) [] []) (refuses BadValue)
-    ∷ is (transaction (reporting Absent 0 1) [] (record { amount = missing; script = found [] } ∷ []) []) (refuses BadValue)
-    ∷ is (transaction (reporting Absent 0 1) [] (record { amount = misfit; script = found [] } ∷ []) []) (refuses BadValue)
-    ∷ is (transaction (reporting Absent 0 1) [] (bare ∷ []) []) (refuses MissingOutputScript)
-    ∷ is (transaction (reporting Absent 0 1) [] (bare ∷ []) (replicate 35 0)) (refuses MissingOutputScript)
-    ∷ is (transaction (reporting Absent 0 1) [] (bare ∷ []) (2 ∷ taproot_script 7)) (refuses MissingOutputScript)
-    ∷ is (transaction (reporting Absent 0 1) [] (hollow ∷ []) []) (refuses BadValue)
-    ∷ is (transaction (reporting Absent 0 2) [] (bare ∷ hollow ∷ []) []) (refuses MissingOutputScript)
-    ∷ is (transaction (reporting Absent 0 2) [] (tiny_out ∷ bare ∷ []) []) (refuses MissingOutputScript)
-    ∷ is (transaction (reporting Absent 1 1) (input missing (bytes []) (bytes []) ∷ []) (bare ∷ []) []) (refuses BadValue)
+    is (transaction (reporting None 1 0) (input missing (bytes []) (bytes []) ∷ []) [] []) (refuses BadValue)
+    ∷ is (transaction (reporting None 1 0) (input misfit (bytes []) (bytes []) ∷ []) [] []) (refuses BadValue)
+    ∷ is (transaction (reporting None 1 0) (input (bytes []) missing (bytes []) ∷ []) [] []) (refuses BadValue)
+    ∷ is (transaction (reporting None 1 0) (input (bytes []) misfit (bytes []) ∷ []) [] []) (refuses BadValue)
+    ∷ is (transaction (reporting None 1 0) (input (bytes []) (bytes []) misfit ∷ []) [] []) (refuses BadValue)
+    ∷ is (transaction (reporting None 2 0) (tiny ∷ input missing (bytes []) (bytes []) ∷ []) [] []) (refuses BadValue)
+    ∷ is (transaction (reporting None 0 1) [] (record { amount = missing; script = found [] } ∷ []) []) (refuses BadValue)
+    ∷ is (transaction (reporting None 0 1) [] (record { amount = misfit; script = found [] } ∷ []) []) (refuses BadValue)
+    ∷ is (transaction (reporting None 0 1) [] (bare ∷ []) []) (refuses MissingOutputScript)
+    ∷ is (transaction (reporting None 0 1) [] (bare ∷ []) (replicate 35 0)) (refuses MissingOutputScript)
+    ∷ is (transaction (reporting None 0 1) [] (bare ∷ []) (2 ∷ taproot_script 7)) (refuses MissingOutputScript)
+    ∷ is (transaction (reporting None 0 1) [] (hollow ∷ []) []) (refuses BadValue)
+    ∷ is (transaction (reporting None 0 2) [] (bare ∷ hollow ∷ []) []) (refuses MissingOutputScript)
+    ∷ is (transaction (reporting None 0 2) [] (tiny_out ∷ bare ∷ []) []) (refuses MissingOutputScript)
+    ∷ is (transaction (reporting None 1 1) (input missing (bytes []) (bytes []) ∷ []) (bare ∷ []) []) (refuses BadValue)
     -- the lock's refusals are 7
-    ∷ is (transaction (reporting Absent 1 1) (record {
+    ∷ is (transaction (reporting None 1 1) (record {
       txid = bytes [];
       index = bytes [];
       sequence = bytes [];
       time = bytes (5 ∷ 0 ∷ 0 ∷ 0 ∷ []);
       height = missing;
     } ∷ []) (bare ∷ []) []) (refuses BadValue)
-    ∷ is (transaction (reporting Absent 1 1)
+    ∷ is (transaction (reporting None 1 1)
     (record { txid = bytes []; index = bytes []; sequence = bytes []; time = misfit; height = missing } ∷ []) (bare ∷ []) []) (refuses BadValue)
     ∷ []
 
@@ -177,7 +176,7 @@ in_bytes = replicate 32 0x11 ++ (1 ∷ 0 ∷ 0 ∷ 0 ∷ 0 ∷ 0xfe ∷ 0xff ∷
 -- the call, on what maps show
 unfoldable pub calls : List View → ℕ → ℕ → State → List ℕ → List ℕ → ToldOut
 unfolding computes views
-calls vs n m t T B = told_tx_out (unsigned_tx_def (views vs) (reporting Absent n m) t T B)
+calls vs n m t T B = told_tx_out (unsigned_tx_def (views vs) (reporting None n m) t T B)
 
 -- the transaction of an input and an output with a script: 61 bytes
 abbrev tx61 : List ℕ

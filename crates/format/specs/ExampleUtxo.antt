@@ -1,12 +1,12 @@
 -- Computed examples of the witness UTXO: amount, where its script begins, how long it is.
-use Rattle.std.specs.Prelude.{ℕ, refl, List, [], ◌∷◌, replicate}
+use Rattle.std.specs.Prelude.{ℕ, refl, List, [], ◌∷◌, replicate, Ok, Err, Some, None}
 use Rattle.format.specs.Rows.{Row, is, Hold}
 use Rattle.format.specs.Unfolds.{lookups}
 use Rattle.format.specs.Counting.{counting, input_pair, nothing, refused}
 use Rattle.format.specs.Fields.{utxo_of, get_witness_utxo, utxo_part}
 use Rattle.format.specs.Told.{Told, told, nat, told_utxo}
 use Rattle.format.specs.declared.PsbtError.TheVariants.{BadValue}
-use Rattle.format.specs.declared.Utxo.TheVariants as U
+use Rattle.format.specs.Answers.{utxo_with}
 
 -- told of it: amount, script start, script length
 abbrev utxo : ℕ → ℕ → ℕ → Told
@@ -72,11 +72,11 @@ utxos_of_inputs = refl
 -- the part of the file that is the script
 unfoldable pub scripts : List (Row (List ℕ))
 scripts =
-    is (utxo_part counting (U.Is 5 10 3)) (10 ∷ 11 ∷ 12 ∷ [])
-    ∷ is (utxo_part counting (U.Is 5 10 0)) []
+    is (utxo_part counting (Ok (Some (utxo_with 5 10 3)))) (10 ∷ 11 ∷ 12 ∷ [])
+    ∷ is (utxo_part counting (Ok (Some (utxo_with 5 10 0)))) []
     ∷ is (utxo_part counting (get_witness_utxo counting (input_pair 0 0x01 1 1 18))) (10 ∷ 11 ∷ 12 ∷ 13 ∷ 14 ∷ 15 ∷ 16 ∷ 17 ∷ 18 ∷ [])
-    ∷ is (utxo_part counting U.Absent) []
-    ∷ is (utxo_part counting (U.Refused BadValue)) []
+    ∷ is (utxo_part counting (Ok None)) []
+    ∷ is (utxo_part counting (Err BadValue)) []
     ∷ []
 
 -- so it is handed back

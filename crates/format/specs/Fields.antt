@@ -1,17 +1,12 @@
 -- Typed fields, silent payments, MuSig2, witness UTXO.
-use Rattle.std.specs.Prelude.{ℕ, ◌+◌, ◌*◌, ◌/◌, Bool, true, ◌&&◌, ◌||◌, List, [], ◌++◌, length, take, drop, get_or, leb, ltb, eqb}
+use Rattle.std.specs.Prelude.{ℕ, ◌+◌, ◌*◌, ◌/◌, Bool, true, ◌&&◌, ◌||◌, List, [], ◌++◌, length, take, drop, get_or, leb, ltb, eqb, Ok, Err, Some, None}
 use Rattle.format.specs.Tests.{pick}
 use Rattle.format.specs.Numbers.{le}
 use Rattle.format.specs.Keys.{key_of}
 use Rattle.format.specs.Tables.{Held}
 use Rattle.format.specs.Lookups.{Length, any_length, exactly, key_list, asked, number_at}
 use Rattle.format.specs.declared.PsbtError.TheVariants.{BadValue, OutOfRange}
-use Rattle.format.specs.declared.Looked.{Looked}
-use Rattle.format.specs.declared.Looked.TheVariants.{Refused, Absent, At}
-use Rattle.format.specs.declared.Numbered.{Numbered}
-use Rattle.format.specs.declared.Numbered.TheVariants as N
-use Rattle.format.specs.declared.Utxo.{Utxo}
-use Rattle.format.specs.declared.Utxo.TheVariants as U
+use Rattle.format.specs.Answers.{part_at, utxo_with, Looked, Numbered, Utxo}
 
 -- the field of a type without key data: its place, or its number of w bytes
 unfoldable pub part_field_def : ℕ → Length → List ℕ → Held → Looked
@@ -145,28 +140,28 @@ output_participants f aggregate h = asked (eqb (length aggregate) 33) key_list f
 
 -- how many participants a list has
 unfoldable pub participant_count : Looked → Numbered
-participant_count (Refused e) = N.Refused e
-participant_count Absent = N.Absent
-participant_count (At s n) = N.Is (n / 33)
+participant_count (Err e) = Err e
+participant_count (Ok None) = Ok None
+participant_count (Ok (Some p)) = Ok (Some (p.len / 33))
 
 -- participant number i of a list: 14 past its end
 unfoldable pub participant : ℕ → Looked → Looked
-participant i (Refused e) = Refused e
-participant i Absent = Absent
-participant i (At s n) = pick (ltb i (n / 33)) (At (s + 33 * i) 33) (Refused OutOfRange)
+participant i (Err e) = Err e
+participant i (Ok None) = Ok None
+participant i (Ok (Some p)) = pick (ltb i (p.len / 33)) (Ok (Some (part_at (p.start + 33 * i) 33))) (Err OutOfRange)
 
 -- a witness UTXO at s with bytes v: 8 of amount, one of length up to fc, exactly so many of script
 unfoldable pub utxo_of : ℕ → List ℕ → Utxo
 utxo_of s v =
     pick (leb 9 (length v) && (leb (get_or v 8 0) 0xfc && eqb (length v) (9 + get_or v 8 0)))
-    (U.Is (le (take 8 v)) (s + 9) (get_or v 8 0))
-    (U.Refused BadValue)
+    (Ok (Some (utxo_with (le (take 8 v)) (s + 9) (get_or v 8 0))))
+    (Err BadValue)
 
 -- a witness UTXO where a lookup found one
 unfoldable pub utxo_by : List ℕ → Looked → Utxo
-utxo_by f (Refused e) = U.Refused e
-utxo_by f Absent = U.Absent
-utxo_by f (At s n) = utxo_of s (take n (drop s f))
+utxo_by f (Err e) = Err e
+utxo_by f (Ok None) = Ok None
+utxo_by f (Ok (Some p)) = utxo_of p.start (take p.len (drop p.start f))
 
 -- the witness UTXO of an input, 01
 unfoldable pub get_witness_utxo : List ℕ → Held → Utxo
@@ -174,6 +169,6 @@ get_witness_utxo f h = utxo_by f (witness_utxo_def f h)
 
 -- the part of the file that is its script: empty for absence and refusal
 unfoldable pub utxo_part : List ℕ → Utxo → List ℕ
-utxo_part f (U.Refused e) = []
-utxo_part f U.Absent = []
-utxo_part f (U.Is a s n) = take n (drop s f)
+utxo_part f (Err e) = []
+utxo_part f (Ok None) = []
+utxo_part f (Ok (Some u)) = take u.len (drop u.start f)

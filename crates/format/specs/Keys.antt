@@ -1,8 +1,9 @@
 -- Keys: type, data, order.
+use Rattle.std.specs.Ordering.{is_lt, is_eq}
 use Rattle.std.specs.Prelude.{ℕ, Bool, true, false, List, [], ◌∷◌, ltb}
 use Rattle.format.specs.Tests.{pick}
-use Rattle.format.specs.declared.Order.{Order}
-use Rattle.format.specs.declared.Order.TheVariants.{Below, Same, Above}
+use Rattle.std.specs.declared.cmp.Ordering.{Ordering}
+use Rattle.std.specs.declared.cmp.Ordering.TheVariants.{Less, Equal, Greater}
 
 -- a key's type: its first byte
 unfoldable pub type_of : List ℕ → ℕ
@@ -19,28 +20,16 @@ unfoldable pub key_of : ℕ → List ℕ → List ℕ
 key_of t d = t ∷ d
 
 -- how a key stands to another: byte by byte, a prefix first
-unfoldable pub order : List ℕ → List ℕ → Order
-order [] [] = Same
-order [] (y ∷ b) = Below
-order (x ∷ a) [] = Above
-order (x ∷ a) (y ∷ b) = pick (ltb x y) Below (pick (ltb y x) Above (order a b))
-
--- the answer is below
-unfoldable pub is_below_def : Order → Bool
-is_below_def Below = true
-is_below_def Same = false
-is_below_def Above = false
-
--- the answer is same
-unfoldable pub is_same_def : Order → Bool
-is_same_def Below = false
-is_same_def Same = true
-is_same_def Above = false
+unfoldable pub order : List ℕ → List ℕ → Ordering
+order [] [] = Equal
+order [] (y ∷ b) = Less
+order (x ∷ a) [] = Greater
+order (x ∷ a) (y ∷ b) = pick (ltb x y) Less (pick (ltb y x) Greater (order a b))
 
 -- the first comes before the second
 unfoldable pub below : List ℕ → List ℕ → Bool
-below a b = is_below_def (order a b)
+below a b = is_lt (order a b)
 
 -- the two are one key
 unfoldable pub same : List ℕ → List ℕ → Bool
-same a b = is_same_def (order a b)
+same a b = is_eq (order a b)

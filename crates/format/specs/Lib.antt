@@ -1,3 +1,4 @@
+pub mod Answers
 pub mod Refusals
 pub mod Tests
 pub mod Numbers

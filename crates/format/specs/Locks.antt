@@ -1,14 +1,12 @@
 -- The lock time, and what decided it.
-use Rattle.std.specs.Prelude.{ℕ, ◌+◌, Bool, true, false, ◌||◌, List, [], ◌∷◌, ◌++◌, length, leb, ltb, eqb}
+use Rattle.std.specs.Prelude.{unwrap_or, ℕ, ◌+◌, Bool, true, false, ◌||◌, List, [], ◌∷◌, ◌++◌, length, leb, ltb, eqb, Ok, Err}
 use Rattle.format.specs.Tests.{pick, keep_if}
 use Rattle.format.specs.Numbers.{le}
 use Rattle.format.specs.Content.{Pair, Found, absent, found, field}
 use Rattle.format.specs.declared.PsbtError.{PsbtError}
 use Rattle.format.specs.declared.PsbtError.TheVariants.{BadValue}
-use Rattle.format.specs.declared.Maybe.{Maybe}
-use Rattle.format.specs.declared.Maybe.TheVariants.{Absent, Present}
-use Rattle.format.specs.declared.Lock.{Lock}
-use Rattle.format.specs.declared.Lock.TheVariants.{Refused, Height, Time, Fallback, BothKinds, HeightTooGreat, TimeTooSmall, Malformed}
+use Rattle.format.specs.Answers.{Decided, Maybe}
+use Rattle.format.specs.declared.Lock.TheVariants.{Height, Time, Fallback, BothKinds, HeightTooGreat, TimeTooSmall, Malformed}
 
 -- a field that must have w bytes: not there, there with another length, or its bytes
 pub data Sized : Type 0 where
@@ -87,32 +85,31 @@ greatest a [] = a
 greatest a (b ∷ bs) = greatest (pick (ltb a.number b.number) b a) bs
 
 -- a greatest height must be a height, a greatest time a time
-unfoldable pub height_lock : Asked → Lock
-height_lock a = pick (ltb a.number threshold) (Height a.number a.input) (HeightTooGreat a.number a.input)
+unfoldable pub height_lock : Asked → Decided
+height_lock a = pick (ltb a.number threshold) (Ok (Height a.number a.input)) (Ok (HeightTooGreat a.number a.input))
 
 -- a greatest time must be a time
-unfoldable pub time_lock : Asked → Lock
-time_lock a = pick (leb threshold a.number) (Time a.number a.input) (TimeTooSmall a.number a.input)
+unfoldable pub time_lock : Asked → Decided
+time_lock a = pick (leb threshold a.number) (Ok (Time a.number a.input)) (Ok (TimeTooSmall a.number a.input))
 
 -- the fallback, absent 0
-unfoldable pub or_zero : Maybe → ℕ
-or_zero Absent = 0
-or_zero (Present n) = n
+abbrev pub or_zero : Maybe → ℕ
+or_zero m = unwrap_or m 0
 
 -- by the heights and the times: not both; the greatest; the fallback only where nothing is asked
-unfoldable pub decide_by : Maybe → List Asked → List Asked → Lock
-decide_by fallback [] [] = Fallback (or_zero fallback)
+unfoldable pub decide_by : Maybe → List Asked → List Asked → Decided
+decide_by fallback [] [] = Ok (Fallback (or_zero fallback))
 decide_by fallback (h ∷ hs) [] = height_lock (greatest h hs)
 decide_by fallback [] (t ∷ ts) = time_lock (greatest t ts)
-decide_by fallback (h ∷ hs) (t ∷ ts) = BothKinds h.input t.input
+decide_by fallback (h ∷ hs) (t ∷ ts) = Ok (BothKinds h.input t.input)
 
 -- no lock field may have a wrong length
-unfoldable pub well_formed : List ℕ → Lock → Lock
+unfoldable pub well_formed : List ℕ → Decided → Decided
 well_formed [] l = l
-well_formed (i ∷ more) l = Malformed i
+well_formed (i ∷ more) l = Ok (Malformed i)
 
 -- what decides the lock of some inputs
-unfoldable pub decide : Maybe → List In → Lock
+unfoldable pub decide : Maybe → List In → Decided
 decide fallback ins = well_formed (misfits 0 ins) (decide_by fallback (heights 0 ins) (times 0 ins))
 
 -- the lock time, or the refusal
@@ -121,12 +118,12 @@ pub data Locked : Type 0 where
   locked : ℕ → Locked
 
 -- the lock time that was decided, or the refusal
-unfoldable pub lock_of : Lock → Locked
-lock_of (Refused e) = unlocked e
-lock_of (Height n i) = locked n
-lock_of (Time n i) = locked n
-lock_of (Fallback n) = locked n
-lock_of (BothKinds h t) = unlocked BadValue
-lock_of (HeightTooGreat n i) = unlocked BadValue
-lock_of (TimeTooSmall n i) = unlocked BadValue
-lock_of (Malformed i) = unlocked BadValue
+unfoldable pub lock_of : Decided → Locked
+lock_of (Err e) = unlocked e
+lock_of (Ok (Height n i)) = locked n
+lock_of (Ok (Time n i)) = locked n
+lock_of (Ok (Fallback n)) = locked n
+lock_of (Ok (BothKinds h t)) = unlocked BadValue
+lock_of (Ok (HeightTooGreat n i)) = unlocked BadValue
+lock_of (Ok (TimeTooSmall n i)) = unlocked BadValue
+lock_of (Ok (Malformed i)) = unlocked BadValue

@@ -1,5 +1,5 @@
 -- Lookups and listings in a map, over tables that may hold anything.
-use Rattle.std.specs.Prelude.{ℕ, zero, suc, ◌%◌, Bool, true, not, ◌&&◌, List, [], ◌∷◌, map, length, take, drop, eqb}
+use Rattle.std.specs.Prelude.{ℕ, zero, suc, ◌%◌, Bool, true, not, ◌&&◌, List, [], ◌∷◌, map, length, take, drop, eqb, Ok, Err, Some, None}
 use Rattle.format.specs.Tests.{pick, only}
 use Rattle.format.specs.Numbers.{le}
 use Rattle.format.specs.Keys.{type_of, key_of, below, same}
@@ -8,19 +8,12 @@ use Rattle.format.specs.Entries.{key_in_def, value_in_def, shown}
 use Rattle.format.specs.Tables.{Held, no, holds}
 use Rattle.format.specs.declared.PsbtError.TheVariants.{BadValue, OutOfRange}
 use Rattle.format.specs.declared.PairEntry.{PairEntry}
-use Rattle.format.specs.declared.Looked.{Looked}
-use Rattle.format.specs.declared.Looked.TheVariants.{Refused, Absent, At}
-use Rattle.format.specs.declared.Numbered.{Numbered}
-use Rattle.format.specs.declared.Numbered.TheVariants as N
-use Rattle.format.specs.declared.Listing.{Listing}
-use Rattle.format.specs.declared.Listing.TheVariants as L
-use Rattle.format.specs.declared.Nth.{Nth}
-use Rattle.format.specs.declared.Nth.TheVariants as K
+use Rattle.format.specs.Answers.{part_at, pairs_at, Listing, Looked, Nth, Numbered}
 
 -- the place of a key's value: that of the entry that has the key
 unfoldable pub place : List ℕ → List ℕ → List PairEntry → Looked
-place f key [] = Absent
-place f key (e ∷ es) = pick (same key (key_in_def f e)) (At e.value e.vlen) (place f key es)
+place f key [] = Ok None
+place f key (e ∷ es) = pick (same key (key_in_def f e)) (Ok (Some (part_at e.value e.vlen))) (place f key es)
 
 -- which lengths of a value are right: any, one of n bytes, a list of 33-byte keys that is not empty
 pub data Length : Type 0 where
@@ -36,14 +29,14 @@ length_fits key_list n = not (eqb n 0) && eqb (n % 33) 0
 
 -- a value of a wrong length is refused
 unfoldable pub of_length_def : Length → Looked → Looked
-of_length_def l (Refused e) = Refused e
-of_length_def l Absent = Absent
-of_length_def l (At s n) = pick (length_fits l n) (At s n) (Refused BadValue)
+of_length_def l (Err e) = Err e
+of_length_def l (Ok None) = Ok None
+of_length_def l (Ok (Some p)) = pick (length_fits l p.len) (Ok (Some p)) (Err BadValue)
 
 -- a typed lookup: the map's refusal, the asked key's length, absence, the value's length
 unfoldable pub asked : Bool → Length → List ℕ → List ℕ → Held → Looked
-asked ok l f key (no e) = Refused e
-asked ok l f key (holds es) = pick ok (of_length_def l (place f key es)) (Refused BadValue)
+asked ok l f key (no e) = Err e
+asked ok l f key (holds es) = pick ok (of_length_def l (place f key es)) (Err BadValue)
 
 -- the lookup of any key, by type and data
 unfoldable pub look : List ℕ → ℕ → List ℕ → Held → Looked
@@ -51,15 +44,15 @@ look f t d h = asked true any_length f (key_of t d) h
 
 -- the part of the file that a lookup hands back: empty for absence and refusal
 unfoldable pub part : List ℕ → Looked → List ℕ
-part f (Refused e) = []
-part f Absent = []
-part f (At s n) = take n (drop s f)
+part f (Err e) = []
+part f (Ok None) = []
+part f (Ok (Some p)) = take p.len (drop p.start f)
 
 -- the number that a place spells
 unfoldable pub number_at : List ℕ → Looked → Numbered
-number_at f (Refused e) = N.Refused e
-number_at f Absent = N.Absent
-number_at f (At s n) = N.Is (le (take n (drop s f)))
+number_at f (Err e) = Err e
+number_at f (Ok None) = Ok None
+number_at f (Ok (Some p)) = Ok (Some (le (take p.len (drop p.start f))))
 
 -- the pairs of a type, in order
 unfoldable pub listing : ℕ → List Pair → List Pair
@@ -71,26 +64,26 @@ before t ps = length (only (λ p. below p.key (key_of t [])) ps)
 
 -- a listing by type: where its pairs begin in the map, or would, and how many they are
 unfoldable pub list : List ℕ → ℕ → Held → Listing
-list f t (no e) = L.Refused e
-list f t (holds es) = L.Pairs (before t (map (shown f) es)) (length (listing t (map (shown f) es)))
+list f t (no e) = Err e
+list f t (holds es) = Ok (pairs_at (before t (map (shown f) es)) (length (listing t (map (shown f) es))))
 
 -- a pair by its number in its map
 unfoldable pub nth_of : ℕ → List PairEntry → Nth
-nth_of i [] = K.Refused OutOfRange
-nth_of zero (e ∷ es) = K.Is e
+nth_of i [] = Err OutOfRange
+nth_of zero (e ∷ es) = Ok e
 nth_of (suc i) (e ∷ es) = nth_of i es
 
 -- pair number i of a map
 unfoldable pub nth : ℕ → Held → Nth
-nth i (no e) = K.Refused e
+nth i (no e) = Err e
 nth i (holds es) = nth_of i es
 
 -- the parts of the file that are its key and its value: empty for a refusal
 unfoldable pub key_part : List ℕ → Nth → List ℕ
-key_part f (K.Refused e) = []
-key_part f (K.Is e) = key_in_def f e
+key_part f (Err e) = []
+key_part f (Ok e) = key_in_def f e
 
 -- the part that is its value
 unfoldable pub value_part : List ℕ → Nth → List ℕ
-value_part f (K.Refused e) = []
-value_part f (K.Is e) = value_in_def f e
+value_part f (Err e) = []
+value_part f (Ok e) = value_in_def f e

@@ -1,5 +1,5 @@
 -- Reading a file, whatever the room: what happens in it, in order, up to the first refusal or to its content.
-use Rattle.std.specs.Prelude.{ℕ, zero, suc, List, [], ◌∷◌, length, take, drop, leb, eqb}
+use Rattle.std.specs.Prelude.{ℕ, zero, suc, List, [], ◌∷◌, length, take, drop, leb, eqb, Ok, Err}
 use Rattle.format.specs.Tests.{pick}
 use Rattle.format.specs.Compact.{size}
 use Rattle.format.specs.Keys.{order, same}
@@ -7,12 +7,9 @@ use Rattle.format.specs.Rules.{rule, GLOBAL, INPUT, OUTPUT}
 use Rattle.format.specs.Content.{Pair, Map, Content, magic, field, counted, global_rule, modifiable, outputs_rule}
 use Rattle.format.specs.declared.PsbtError.{PsbtError}
 use Rattle.format.specs.declared.PsbtError.TheVariants.{InvalidMagic, UnexpectedEof, DuplicateKey, UnsortedKeys, TooLong}
-use Rattle.format.specs.declared.Size.{Size}
-use Rattle.format.specs.declared.Size.TheVariants.{Bad, Read}
-use Rattle.format.specs.declared.Order.{Order}
-use Rattle.format.specs.declared.Order.TheVariants.{Below, Same, Above}
-use Rattle.format.specs.declared.Ruled.{Ruled}
-use Rattle.format.specs.declared.Ruled.TheVariants.{Passed, Refused}
+use Rattle.std.specs.declared.cmp.Ordering.{Ordering}
+use Rattle.format.specs.Answers.{Ruled, Size}
+use Rattle.std.specs.declared.cmp.Ordering.TheVariants.{Less, Equal, Greater}
 
 -- the most bytes that a file may have
 unfoldable pub limit : ℕ
@@ -30,22 +27,23 @@ pub data Item : Type 0 where
 
 -- a pair that is read, by its field rule
 unfoldable pub ruled : Pair → List ℕ → Ruled → Item
-ruled p r Passed = one p r
-ruled p r (Refused e) = stop e
+ruled p r (Ok u) = one p r
+ruled p r (Err e) = stop e
 
 -- a value in front of r, by its length
 unfoldable pub valued : FieldRule → List ℕ → List ℕ → List ℕ → Size → Item
-valued ρ a key r (Bad e) = stop e
-valued ρ a key r (Read n u) =
-    pick (leb n (length (drop u r)))
-    (ruled (record { klen = a; key = key; vlen = take u r; value = take n (drop u r) }) (drop n (drop u r)) (ρ key (take n (drop u r))))
+valued ρ a key r (Err e) = stop e
+valued ρ a key r (Ok r') =
+    pick (leb r'.value (length (drop r'.used r)))
+    (ruled (record { klen = a; key = key; vlen = take r'.used r; value = take r'.value (drop r'.used r) }) (drop r'.value (drop r'.used r))
+    (ρ key (take r'.value (drop r'.used r))))
     (stop UnexpectedEof)
 
 -- a key in front of r, by the order of the last key to it: the order is tested before the value is read
-unfoldable pub risen : FieldRule → List ℕ → List ℕ → List ℕ → Order → Item
-risen ρ a key r Below = valued ρ a key r (size r)
-risen ρ a key r Same = stop DuplicateKey
-risen ρ a key r Above = stop UnsortedKeys
+unfoldable pub risen : FieldRule → List ℕ → List ℕ → List ℕ → Ordering → Item
+risen ρ a key r Less = valued ρ a key r (size r)
+risen ρ a key r Equal = stop DuplicateKey
+risen ρ a key r Greater = stop UnsortedKeys
 
 -- n bytes of a key in front of r, behind its length's bytes a
 unfoldable pub keyed : FieldRule → List ℕ → List ℕ → ℕ → List ℕ → Item
@@ -53,8 +51,8 @@ keyed ρ last a n r = pick (leb n (length r)) (risen ρ a (take n r) (drop n r) 
 
 -- an item in front of s, by the key's length: 0 ends the map
 unfoldable pub item_by_def : FieldRule → List ℕ → List ℕ → Size → Item
-item_by_def ρ last s (Bad e) = stop e
-item_by_def ρ last s (Read n u) = pick (eqb n 0) (over (take u s) (drop u s)) (keyed ρ last (take u s) n (drop u s))
+item_by_def ρ last s (Err e) = stop e
+item_by_def ρ last s (Ok r) = pick (eqb r.value 0) (over (take r.used s) (drop r.used s)) (keyed ρ last (take r.used s) r.value (drop r.used s))
 
 -- the item in front of s, in a map of field rule ρ whose last key is `last` (empty before its first)
 unfoldable pub item : FieldRule → List ℕ → List ℕ → Item
@@ -110,8 +108,8 @@ maps_events ρ (suc n) s j = begins (map_events (λ m r. maps_events ρ n r (λ 
 
 -- go on where a rule passes
 unfoldable pub unless : Ruled → Reading → Reading
-unless Passed t = t
-unless (Refused e) t = refusal e
+unless (Ok u) t = t
+unless (Err e) t = refusal e
 
 -- a version of the format
 pub record Version : Type 0 where

@@ -1,5 +1,5 @@
 -- Scripts that the signer sets for outputs without one.
-use Rattle.std.specs.Prelude.{ℕ, ◌+◌, ◌*◌, Bool, true, not, ◌&&◌, ◌||◌, List, [], ◌∷◌, ◌++◌, map, length, take, drop, replicate, leb, ltb, eqb}
+use Rattle.std.specs.Prelude.{ℕ, ◌+◌, ◌*◌, Bool, true, not, ◌&&◌, ◌||◌, List, [], ◌∷◌, ◌++◌, map, length, take, drop, replicate, leb, ltb, eqb, Ok, Err}
 use Rattle.format.specs.Tests.{pick, only, every}
 use Rattle.format.specs.Keys.{same}
 use Rattle.format.specs.Content.{Pair, Found, present, field}
@@ -10,8 +10,7 @@ use Rattle.format.specs.declared.PsbtError.TheVariants.{InvalidOutputScripts, No
 use Rattle.format.specs.declared.Psbt.{Psbt}
 use Rattle.format.specs.declared.State.{State}
 use Rattle.format.specs.declared.Assignment.{Assignment}
-use Rattle.format.specs.declared.ScriptsSet.{ScriptsSet}
-use Rattle.format.specs.declared.ScriptsSet.TheVariants.{Refused, Done}
+use Rattle.format.specs.Answers.{ScriptsSet}
 
 -- what a transaction takes from an output
 pub record Out : Type 0 where
@@ -109,18 +108,18 @@ after_set t (o ∷ os) = record { set = true; written = t.written }
 unfoldable pub set_table : List Out → List ℕ → State → List ℕ → List Assignment → SetOut
 set_table outs buffer t T xs =
     pick (leb (script_entry * length outs) (length T))
-    (set_out_def (Done (after_set t outs)) (entries_for buffer xs 0 outs ++ drop (script_entry * length outs) T))
-    (set_out_def (Refused NoRoom) T)
+    (set_out_def (Ok (after_set t outs)) (entries_for buffer xs 0 outs ++ drop (script_entry * length outs) T))
+    (set_out_def (Err NoRoom) T)
 
 -- scripts may still be set, and the assignments are right
 unfoldable pub set_given : List Out → List ℕ → State → List ℕ → Given → SetOut
-set_given outs buffer t T cut_short = set_out_def (Refused InvalidOutputScripts) T
+set_given outs buffer t T cut_short = set_out_def (Err InvalidOutputScripts) T
 set_given outs buffer t T (whole xs) =
-    pick (settable t && right_for outs buffer xs) (set_table outs buffer t T xs) (set_out_def (Refused InvalidOutputScripts) T)
+    pick (settable t && right_for outs buffer xs) (set_table outs buffer t T xs) (set_out_def (Err InvalidOutputScripts) T)
 
 -- no reported map is unfit
 unfoldable pub set_by : List ℕ → State → List ℕ → Given → Reported → SetOut
-set_by buffer t T g (unfit_map e) = set_out_def (Refused e) T
+set_by buffer t T g (unfit_map e) = set_out_def (Err e) T
 set_by buffer t T g (reports ins outs) = set_given outs buffer t T g
 
 -- the setter, on what maps show: the assignments given, their buffer, the state, the script table

@@ -1,5 +1,5 @@
 -- The unsigned transaction.
-use Rattle.std.specs.Prelude.{ℕ, ◌+◌, ◌*◌, Bool, true, false, ◌&&◌, List, [], ◌∷◌, ◌++◌, map, length, take, drop, replicate, leb, eqb}
+use Rattle.std.specs.Prelude.{ℕ, ◌+◌, ◌*◌, Bool, true, false, ◌&&◌, List, [], ◌∷◌, ◌++◌, map, length, take, drop, replicate, leb, eqb, Ok, Err, Some, None}
 use Rattle.format.specs.Tests.{pick}
 use Rattle.format.specs.Numbers.{bytes_of, unsigned}
 use Rattle.format.specs.Compact.{shortest}
@@ -14,14 +14,8 @@ use Rattle.format.specs.declared.PsbtError.{PsbtError}
 use Rattle.format.specs.declared.PsbtError.TheVariants.{BadValue, MissingOutputScript, BadIndex, NoRoom}
 use Rattle.format.specs.declared.Psbt.{Psbt}
 use Rattle.format.specs.declared.State.{State}
-use Rattle.format.specs.declared.Lock.{Lock}
-use Rattle.format.specs.declared.Lock.TheVariants as L
-use Rattle.format.specs.declared.Looked.{Looked}
-use Rattle.format.specs.declared.Looked.TheVariants as K
-use Rattle.format.specs.declared.OutputScript.{OutputScript}
-use Rattle.format.specs.declared.OutputScript.TheVariants as O
-use Rattle.format.specs.declared.UnsignedTx.{UnsignedTx}
-use Rattle.format.specs.declared.UnsignedTx.TheVariants.{Refused, Written}
+use Rattle.format.specs.Answers.{wrote_tx, Decided, Looked, OutputScript, UnsignedTx}
+use Rattle.format.specs.declared.ScriptPlace.TheVariants as O
 
 -- a script table's entry is one that the setter writes for an output with a script, or for one without
 unfoldable pub entry_fits : Found → List ℕ → Bool
@@ -123,40 +117,40 @@ pub data TxOut : Type 0 where
 
 -- room is tested last, and bytes behind the transaction stay
 unfoldable pub written : State → List ℕ → Tx → TxOut
-written t B (refuses e) = tx_out (Refused e) B
+written t B (refuses e) = tx_out (Err e) B
 written t B (writes x) =
     pick (leb (length x) (length B))
-    (tx_out (Written (length x) (record { set = t.set; written = true })) (x ++ drop (length x) B))
-    (tx_out (Refused NoRoom) B)
+    (tx_out (Ok (wrote_tx (length x) (record { set = t.set; written = true }))) (x ++ drop (length x) B))
+    (tx_out (Err NoRoom) B)
 
 -- the call, on what maps show: the state, the script table, the buffer
 unfoldable pub unsigned_tx_def : (ℕ → View) → Psbt → State → List ℕ → List ℕ → TxOut
 unsigned_tx_def v s t T B = written t B (tx_reported s t T (reported v s))
 
 -- what decides the lock, as a call of its own
-unfoldable pub lock_by : Psbt → Reported → Lock
-lock_by s (unfit_map e) = L.Refused e
+unfoldable pub lock_by : Psbt → Reported → Decided
+lock_by s (unfit_map e) = Err e
 lock_by s (reports ins outs) = decide s.fallback_locktime ins
 
 -- of what maps show
-unfoldable pub lock_decided : (ℕ → View) → Psbt → Lock
+unfoldable pub lock_decided : (ℕ → View) → Psbt → Decided
 lock_decided v s = lock_by s (reported v s)
 
 -- where the script of output number i stands: 04 where it was found, else the one set, behind the first byte of its entry
 unfoldable pub script_place : State → ℕ → Looked → OutputScript
-script_place t i (K.Refused e) = O.Refused e
-script_place t i (K.At s n) = O.InFile s n
-script_place t i K.Absent = pick t.set (O.InTable (i * script_entry + 1) 34) O.Absent
+script_place t i (Err e) = Err e
+script_place t i (Ok (Some p)) = Ok (Some (O.InFile p.start p.len))
+script_place t i (Ok None) = pick t.set (Ok (Some (O.InTable (i * script_entry + 1) 34))) (Ok None)
 
 -- the script of output number i as a call of its own: its map's refusal, then its entry of the script table, then the place
 unfoldable pub output_script_def : List ℕ → State → List ℕ → ℕ → Held → OutputScript
-output_script_def f t T i (no e) = O.Refused e
+output_script_def f t T i (no e) = Err e
 output_script_def f t T i (holds es) =
-    pick (table_fits t (out_of (map (shown f) es) ∷ []) (drop (i * script_entry) T)) (script_place t i (place f (key_of 0x04 []) es)) (O.Refused BadIndex)
+    pick (table_fits t (out_of (map (shown f) es) ∷ []) (drop (i * script_entry) T)) (script_place t i (place f (key_of 0x04 []) es)) (Err BadIndex)
 
 -- the part that stands there, of the file or of the script table: empty for absence and refusal
 unfoldable pub script_part : List ℕ → List ℕ → OutputScript → List ℕ
-script_part f T (O.Refused e) = []
-script_part f T O.Absent = []
-script_part f T (O.InFile s n) = take n (drop s f)
-script_part f T (O.InTable s n) = take n (drop s T)
+script_part f T (Err e) = []
+script_part f T (Ok None) = []
+script_part f T (Ok (Some (O.InFile s n))) = take n (drop s f)
+script_part f T (Ok (Some (O.InTable s n))) = take n (drop s T)

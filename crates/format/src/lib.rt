@@ -3,7 +3,6 @@
 
 ghost use Rattle.std.specs.Prelude.{◌≡◌};
 ghost use Rattle.format.specs.Refusals.{number_of};
-ghost use Rattle.format.specs.Locks.{or_zero};
 
 // A lock number below this is a block height, any other a time.
 pub const THRESHOLD: u32 = 500_000_000;
@@ -13,13 +12,6 @@ pub const PUBKEY_LEN: usize = 33;
 
 // The longest file that is read, in bytes.
 pub const LIMIT: usize = 1_048_576;
-
-// The kinds of map: the global one, an input's, an output's.
-pub const GLOBAL: u8 = 0;
-
-pub const INPUT: u8 = 1;
-
-pub const OUTPUT: u8 = 2;
 
 // The types of keys in the global map, under the Rust's names.
 pub const PSBT_GLOBAL_UNSIGNED_TX: u8 = 0x00;
@@ -138,10 +130,18 @@ pub const PSBT_OUT_DNSSEC_PROOF: u8 = 0x35;
 
 pub const PSBT_OUT_PROPRIETARY: u8 = 0xfc;
 
-// Why a call is refused: the Rust's names in the Rust's order, then those that lent memory adds.
-#[derive(Clone, Copy)]
+// The kinds of map: the global one, an input's, an output's.
+#[derive(Clone, Copy, PartialEq, Eq)]
+pub enum MapKind {
+    Global,
+    Input,
+    Output,
+}
+
+// Why a call is refused: the Rust's names in the Rust's order, then those that lent memory adds. They count from 1.
+#[derive(Clone, Copy, Debug, PartialEq, Eq)]
 pub enum PsbtError {
-    InvalidMagic,
+    InvalidMagic = 1,
     UnexpectedEof,
     InvalidCompactSize,
     MapTerminatorMissing,
@@ -173,99 +173,39 @@ impl PsbtError {
     pub fn number(self) -> u8
         ensures { result ≡ number_of self }
     {
-        match self {
-            PsbtError::InvalidMagic => 1,
-            PsbtError::UnexpectedEof => 2,
-            PsbtError::InvalidCompactSize => 3,
-            PsbtError::MapTerminatorMissing => 4,
-            PsbtError::DuplicateKey => 5,
-            PsbtError::UnsortedKeys => 6,
-            PsbtError::BadValue => 7,
-            PsbtError::MissingCounts => 8,
-            PsbtError::MissingOutputIndex => 9,
-            PsbtError::MissingRedeemScript => 10,
-            PsbtError::MissingWitnessScript => 11,
-            PsbtError::CountsTooLarge => 12,
-            PsbtError::NotAllowed => 13,
-            PsbtError::OutOfRange => 14,
-            PsbtError::UnknownOutputType => 15,
-            PsbtError::Unsupported => 16,
-            PsbtError::MissingOutputScript => 17,
-            PsbtError::InvalidSilentPayment => 18,
-            PsbtError::InvalidOutputScripts => 19,
-            PsbtError::InvalidSighashType => 20,
-            PsbtError::TooLong => 21,
-            PsbtError::PairsFull => 22,
-            PsbtError::MapsFull => 23,
-            PsbtError::BadIndex => 24,
-            PsbtError::NoRoom => 25,
-        }
+        self as u8
     }
 }
 
-// A compact size at the front of some bytes: its value and how many bytes spell it, or the refusal.
+// A compact size at the front of some bytes: its value and how many bytes spell it.
 #[derive(Clone, Copy)]
-pub enum Size {
-    Bad(PsbtError),
-    Read { value: u64, used: usize },
-}
-
-// How one key stands to another.
-#[derive(Clone, Copy)]
-pub enum Order {
-    Below,
-    Same,
-    Above,
-}
-
-// What a rule says: passed, or the refusal.
-#[derive(Clone, Copy)]
-pub enum Ruled {
-    Passed,
-    Refused(PsbtError),
+pub struct CompactSize {
+    pub value: u64,
+    pub used: usize,
 }
 
 // A row of the table of sized types: kind of map, type, length of the key data, length of the value.
 // A value of 0 marks a key origin: at least 4 bytes, a multiple of 4. A bare row speaks only of keys without data.
 #[derive(Clone, Copy)]
 pub struct SizedType {
-    pub kind: u8,
+    pub kind: MapKind,
     pub tag: u8,
     pub dlen: u8,
     pub vlen: u8,
     pub bare: bool,
 }
 
-// A number that may be absent; absent is not 0.
-#[derive(Clone, Copy)]
-pub enum Maybe {
-    Absent,
-    Present(u32),
-}
-
-impl Maybe {
-    // The number, 0 where it is absent.
-    pub fn or_zero(self) -> u32
-        ensures { result ≡ or_zero self }
-    {
-        match self {
-            Maybe::Absent => 0,
-            Maybe::Present(n) => n,
-        }
-    }
-}
-
-// What parse reports of the global map.
+// What parse reports of the global map. A number that is absent is not 0.
 #[derive(Clone, Copy)]
 pub struct Psbt {
     pub tx_version: i32,
-    pub fallback_locktime: Maybe,
-    pub tx_modifiable: Maybe,
+    pub fallback_locktime: Option<u32>,
+    pub tx_modifiable: Option<u32>,
     pub inputs: u64,
     pub outputs: u64,
 }
 
-// What parse answers, with the entries used of both tables.
+// What parse answers. Kept beside Result: a refusal too reports how many entries of both tables are used.
 #[derive(Clone, Copy)]
 pub enum Parsed {
     Accepted {
@@ -296,53 +236,32 @@ pub struct MapEntry {
     pub count: usize,
 }
 
-// What a lookup answers: where the value stands in the file, that there is none, or the refusal.
+// Where some bytes stand in the file. A lookup that is not refused answers it, or that there is none.
 #[derive(Clone, Copy)]
-pub enum Looked {
-    Refused(PsbtError),
-    Absent,
-    At { start: usize, len: usize },
+pub struct Part {
+    pub start: usize,
+    pub len: usize,
 }
 
-// A number looked up.
+// What a listing by type answers: the first pair's number in its map, and how many there are.
 #[derive(Clone, Copy)]
-pub enum Numbered {
-    Refused(PsbtError),
-    Absent,
-    Is(u64),
-}
-
-// A listing by type: the first pair's number in its map, and how many there are.
-#[derive(Clone, Copy)]
-pub enum Listing {
-    Refused(PsbtError),
-    Pairs { first: usize, count: usize },
-}
-
-// A pair asked by its number in its map.
-#[derive(Clone, Copy)]
-pub enum Nth {
-    Refused(PsbtError),
-    Is(PairEntry),
+pub struct Listed {
+    pub first: usize,
+    pub count: usize,
 }
 
 // A witness UTXO: the amount, and where its script stands in the file.
 #[derive(Clone, Copy)]
-pub enum Utxo {
-    Refused(PsbtError),
-    Absent,
-    Is {
-        amount: u64,
-        start: usize,
-        len: usize,
-    },
+pub struct WitnessUtxo {
+    pub amount: u64,
+    pub start: usize,
+    pub len: usize,
 }
 
 // What decided the lock: the greatest height or time and the input that asks for it, the fallback (0 if
-// absent), or the rule that refused and the inputs at fault.
+// absent), or the rule that forbids what the inputs ask for and the inputs at fault.
 #[derive(Clone, Copy)]
 pub enum Lock {
-    Refused(PsbtError),
     Height { number: u32, input: u64 },
     Time { number: u32, input: u64 },
     Fallback { number: u32 },
@@ -367,25 +286,16 @@ pub struct Assignment {
     pub len: u64,
 }
 
-// What the setter answers: the new state, or the refusal.
+// What the transaction answers where it is not refused: how many bytes it has and the new state.
 #[derive(Clone, Copy)]
-pub enum ScriptsSet {
-    Refused(PsbtError),
-    Done(State),
+pub struct Written {
+    pub len: usize,
+    pub state: State,
 }
 
-// What the transaction answers: how many bytes it has and the new state, or the refusal.
+// Where an output's script stands: in the file or in the script table.
 #[derive(Clone, Copy)]
-pub enum UnsignedTx {
-    Refused(PsbtError),
-    Written { len: usize, state: State },
-}
-
-// Where an output's script stands: in the file or in the script table, that there is none, or the refusal.
-#[derive(Clone, Copy)]
-pub enum OutputScript {
-    Refused(PsbtError),
-    Absent,
+pub enum ScriptPlace {
     InFile { start: usize, len: usize },
     InTable { start: usize, len: usize },
 }

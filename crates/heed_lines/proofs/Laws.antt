@@ -9,10 +9,14 @@ use Rattle.format.specs.Tests.{pick}
 use Rattle.format.specs.Tables.{held_input}
 use Rattle.format.specs.Fields.{sequence}
 use Rattle.format.specs.Locks.{lock_of}
+use Rattle.std.specs.Prelude.{Ok, Err, ◌⊎◌}
+use Rattle.std.proofs.Common.{inl, inr}
+use Rattle.format.specs.declared.PsbtError.{PsbtError}
+use Rattle.format.specs.declared.Lock.{Lock}
+use Rattle.format.specs.declared.Lock.TheVariants.{Height, Time, Fallback, BothKinds, HeightTooGreat, TimeTooSmall, Malformed}
 use Rattle.format.specs.Told.{told_numbered}
 use Rattle.format.specs.declared.Psbt.{Psbt}
-use Rattle.format.specs.declared.Numbered.{Numbered}
-use Rattle.format.specs.declared.Lock.{Lock}
+use Rattle.format.specs.Answers.{Decided, Numbered}
 use Rattle.format.proofs.Told.{numbered_one}
 use Rattle.text.specs.Spots.{Spot, spot, lay}
 use Rattle.text.specs.Spelled.{decimal}
@@ -25,8 +29,31 @@ use Rattle.heed_lines.specs.Heeds.{is_final, heed_from, sequence_of, heed_of, sa
 pub final_by : (r : Bool) (x y : Numbered) → x ≡ y → r ≡ is_final y → r ≡ is_final x
 final_by r x y e q = q ∙ sym (ap is_final e)
 
-pub number_by : (r : ℕ) (x y : Lock) → x ≡ y → r ≡ number_decided (lock_of y) → r ≡ number_decided (lock_of x)
-number_by r x y e q = q ∙ sym (ap (λ (l : Lock). number_decided (lock_of l)) e)
+-- the lock time that was decided, by the kind of the lock
+none_of : (x : Lock) → ((n i : ℕ) → x ≡ Height n i → ⊥) → ((n i : ℕ) → x ≡ Time n i → ⊥) → ((n : ℕ) → x ≡ Fallback n → ⊥) → 0 ≡ number_decided (lock_of (Ok x))
+unfolding lock_of number_decided
+none_of (Height n i) h t f = absurd (h n i refl)
+none_of (Time n i) h t f = absurd (t n i refl)
+none_of (Fallback n) h t f = absurd (f n refl)
+none_of (BothKinds a b) h t f = refl
+none_of (HeightTooGreat n i) h t f = refl
+none_of (TimeTooSmall n i) h t f = refl
+none_of (Malformed i) h t f = refl
+
+module _ (l : Decided) where
+  pub number_refused : (e : PsbtError) → l ≡ Err e → 0 ≡ number_decided (lock_of l)
+  unfolding lock_of number_decided
+  number_refused e q = rw q
+
+  module _ (x : Lock) (q : l ≡ Ok x) where
+    pub number_kept : (n : ℕ) → ((i : ℕ) × x ≡ Height n i) ⊎ (((i : ℕ) × x ≡ Time n i) ⊎ (x ≡ Fallback n)) → n ≡ number_decided (lock_of l)
+    unfolding lock_of number_decided
+    number_kept n (inl w) = rw (q, w.1)
+    number_kept n (inr (inl w)) = rw (q, w.1)
+    number_kept n (inr (inr w)) = rw (q, w)
+
+    pub number_none : ((n i : ℕ) → x ≡ Height n i → ⊥) → ((n i : ℕ) → x ≡ Time n i → ⊥) → ((n : ℕ) → x ≡ Fallback n → ⊥) → 0 ≡ number_decided (lock_of l)
+    number_none h t f = none_of x h t f ∙ sym (ap (λ (d : Decided). number_decided (lock_of d)) q)
 
 -- the inputs from number i on say what all say: those before are final
 abbrev pub Heeding : List ℕ → List ℕ → List ℕ → Psbt → ℕ → Type 0
@@ -69,7 +96,7 @@ text_heeded_lem s t₁ t₂ t₃ x i e a b c = chain3 s t₁ t₂ t₃ _ _ _ _ a
 pub ruleset texts = (text_ignored, text_heeded_lem)
 
 -- a line, or none
-module _ (at : ℕ) (D : List ℕ) (l : Lock) (h : Heed) (n : ℕ) (is : n ≡ number_decided (lock_of l)) where
+module _ (at : ℕ) (D : List ℕ) (l : Decided) (h : Heed) (n : ℕ) (is : n ≡ number_decided (lock_of l)) where
   pub line_none : n ≡ 0 → spot at D ≡ lay (spot at D) (heed_line l h)
   unfolding heed_line lay
   line_none z = sym (rw (eq-eqb (number_decided (lock_of l)) 0 (sym is ∙ z)))

@@ -5,7 +5,7 @@ use native.Mathlib.Omega.{arith}
 use lib.Dec.{eqb}
 use lib.ListN.{length, length-append}
 use Rattle.format.specs.Locks.{lock_of}
-use Rattle.format.specs.declared.Lock.{Lock}
+use Rattle.format.specs.Answers.{Decided}
 use Rattle.format.proofs.Tests.{pick_by}
 use Rattle.text.proofs.Sizes.{decimal_most}
 use Rattle.heed_lines.specs.declared.Heed.{Heed}
@@ -18,6 +18,6 @@ text_most Ignored = omega arith
 text_most (By i) = simp length-append (omega (arith, decimal_most i))
 
 -- with the line or without
-pub heed_most : (l : Lock) (h : Heed) → length (heed_line l h) ≤ 108
+pub heed_most : (l : Decided) (h : Heed) → length (heed_line l h) ≤ 108
 unfolding heed_line
 heed_most l h = pick_by (λ (b : List ℕ). length b ≤ 108) (eqb (number_decided (lock_of l)) 0) _ _ (λ q. omega arith) (λ q. text_most h)

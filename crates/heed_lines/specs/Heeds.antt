@@ -1,13 +1,11 @@
 -- Whether the network heeds a lock time: it ignores that of a transaction whose inputs all have the sequence ffffffff.
-use Rattle.std.specs.Prelude.{ℕ, zero, suc, ◌+◌, Bool, true, List, [], ◌++◌, eqb}
+use Rattle.std.specs.Prelude.{ℕ, zero, suc, ◌+◌, Bool, true, List, [], ◌++◌, eqb, Ok, Err, Some, None}
 use Rattle.format.specs.Tests.{pick}
 use Rattle.format.specs.Tables.{held_input}
 use Rattle.format.specs.Fields.{sequence}
 use Rattle.format.specs.Locks.{Locked, unlocked, locked, lock_of}
 use Rattle.format.specs.declared.Psbt.{Psbt}
-use Rattle.format.specs.declared.Numbered.{Numbered}
-use Rattle.format.specs.declared.Numbered.TheVariants as N
-use Rattle.format.specs.declared.Lock.{Lock}
+use Rattle.format.specs.Answers.{Decided, Numbered}
 use Rattle.text.specs.Say.{say}
 use Rattle.text.specs.Spelled.{decimal}
 use Rattle.heed_lines.specs.declared.Heed.{Heed}
@@ -20,9 +18,9 @@ final_sequence = 0xffff_ffff
 -- an input is final where its sequence is absent or ffffffff. One that couldn't be read counts as final, so that no lock is said to be heeded
 -- by it; an accepted parse leaves none
 unfoldable pub is_final : Numbered → Bool
-is_final (N.Refused e) = true
-is_final N.Absent = true
-is_final (N.Is n) = eqb n final_sequence
+is_final (Err e) = true
+is_final (Ok None) = true
+is_final (Ok (Some n)) = eqb n final_sequence
 
 -- by the sequences q of n inputs from number i on: the first input that isn't final has the lock heeded; where there is none, it is ignored
 unfoldable pub heed_from : (ℕ → Numbered) → ℕ → ℕ → Heed
@@ -56,5 +54,5 @@ number_decided (unlocked e) = 0
 number_decided (locked n) = n
 
 -- the line of a lock other than 0; 0 locks nothing, and a refused lock has no transaction
-unfoldable pub heed_line : Lock → Heed → List ℕ
+unfoldable pub heed_line : Decided → Heed → List ℕ
 heed_line l h = pick (eqb (number_decided (lock_of l)) 0) [] (heed_text h)

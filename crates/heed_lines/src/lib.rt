@@ -6,7 +6,7 @@ ghost use Rattle.format.specs.Locks.{lock_of};
 ghost use Rattle.text.specs.Spots.{spot, lay};
 ghost use Rattle.heed_lines.specs.Heeds.{is_final, heed_of, heed_text, number_decided, heed_line};
 
-use format::{Lock, Numbered, Psbt};
+use format::{Lock, Psbt, PsbtError};
 use text::{put, put_decimal};
 use typed::input::sequence;
 
@@ -21,13 +21,12 @@ pub enum Heed {
 const FINAL: u64 = 0xffff_ffff;
 
 // An input with this sequence is final. One that couldn't be read counts as final.
-fn is_final(sequence: Numbered) -> bool
+fn is_final(sequence: Result<Option<u64>, PsbtError>) -> bool
     ensures { result ≡ is_final sequence }
 {
     match sequence {
-        Numbered::Refused(_) => true,
-        Numbered::Absent => true,
-        Numbered::Is(n) => n == FINAL,
+        Ok(Some(n)) => n == FINAL,
+        Ok(None) | Err(_) => true,
     }
 }
 
@@ -35,12 +34,8 @@ fn is_final(sequence: Numbered) -> bool
 pub fn heed_of(file: &[u8], pairs: &[u32], maps: &[u32], psbt: Psbt) -> Heed
     ensures { result ≡ heed_of file.now pairs.now maps.now psbt }
 {
-    let mut i: u64 = 0;
-    while i < psbt.inputs {
-        let q = sequence(file, pairs, maps, psbt, i);
-        if is_final(q) {
-            i = i + 1;
-        } else {
+    for i in 0..psbt.inputs {
+        if !is_final(sequence(file, pairs, maps, psbt, i)) {
             return Heed::By(i);
         }
     }
@@ -66,32 +61,21 @@ fn put_heed_text(out: &mut [u8], at: usize, heed: Heed) -> usize
 }
 
 // The lock time that was decided, 0 where it was refused.
-fn number_decided(lock: Lock) -> u32
+fn number_decided(lock: Result<Lock, PsbtError>) -> u32
     ensures { result ≡ number_decided (lock_of lock) }
 {
-    match lock {
-        Lock::Height { number, input: _ } => number,
-        Lock::Time { number, input: _ } => number,
-        Lock::Fallback { number } => number,
-        Lock::Refused(_) => 0,
-        Lock::BothKinds {
-            height_input: _,
-            time_input: _,
-        } => 0,
-        Lock::HeightTooGreat {
-            number: _,
-            input: _,
-        } => 0,
-        Lock::TimeTooSmall {
-            number: _,
-            input: _,
-        } => 0,
-        Lock::Malformed { input: _ } => 0,
+    let Ok(decided) = lock else {
+        return 0;
+    };
+    match decided {
+        Lock::Height { number, .. } | Lock::Time { number, .. } | Lock::Fallback { number } =>
+            number,
+        _ => 0,
     }
 }
 
 // The line of a lock other than 0; nothing for 0 and for a lock that was refused.
-pub fn put_heed(out: &mut [u8], at: usize, lock: Lock, heed: Heed) -> usize
+pub fn put_heed(out: &mut [u8], at: usize, lock: Result<Lock, PsbtError>, heed: Heed) -> usize
     ensures { spot result out.new ≡ lay (spot at out.old) (heed_line lock heed) }
 {
     if number_decided(lock) == 0 {

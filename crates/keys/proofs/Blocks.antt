@@ -31,9 +31,6 @@ order_behind (c ∷ p) x y = rw (le-ltb c c (omega arith)) (order_behind p x y)
 same_bytes : (x y : List ℕ) → length x ≡ length y → All Byte x → All Byte y → le x ≡ le y → x ≡ y
 same_bytes x y l h k e = sym (bytes_of_le x h) ∙ ap₂ bytes_of l e ∙ bytes_of_le y k
 
-pub front_start : (a b : List ℕ) → Front a b 0
-front_start a b = record { on = refl; in_a = omega arith }
-
 -- the w bytes from i on, and what follows them
 module _ (w : ℕ) (s : List ℕ) (i : ℕ) where
   block_length : i + w ≤ length s → length (take w (drop i s)) ≡ w
@@ -54,5 +51,3 @@ module _ (a b : List ℕ) (i : ℕ) (f : Front a b i) where
       let p : take w (drop i a) ≡ take w (drop i b) = same_bytes _ _ l (block_bytes w a i m) (block_bytes w b i n) (sym e ∙ q ∙ g) in
       let c = ap (λ (t : List ℕ). t ++ drop (i + w) a) (sym p) ∙ block_more w a i in
       record { on = sym (order_behind (take w (drop i b)) (drop (i + w) a) (drop (i + w) b)) ∙ ap₂ order c (block_more w b i) ∙ f.on; in_a = h }
-
-pub ruleset blocks = (front_start)

@@ -4,24 +4,22 @@ use mathlib.Core.Path.{◌≡◌, refl, sym, ◌∙◌, ap, subst}
 use mathlib.Core.Bool.{Bool, true, false}
 use mathlib.Core.List.{List, [], ◌∷◌}
 use native.Mathlib.Omega.{arith}
-use borrow.Author.Tests.{ne_eqb, eqb-true}
+use borrow.Author.Tests.{eqb-true}
 use lib.Dec.{eqb}
 use lib.ListN.{length}
 use lib.Seq.{take_all}
 use Rattle.format.specs.Tests.{pick}
 use Rattle.format.specs.Numbers.{le}
 use Rattle.format.specs.Compact.{size, count_by_def, count}
-use Rattle.format.specs.Keys.{type_of, data_of, key_of, same, is_same_def}
-use Rattle.format.specs.Rules.{GLOBAL, INPUT, OUTPUT, value_fits, is_row, row_rule, sizes_in, sizes, count_rule, bare_rule, and_then, rule}
+use Rattle.format.specs.Keys.{type_of, data_of, key_of, same}
+use Rattle.format.specs.Rules.{GLOBAL, value_fits, is_row, row_rule, sizes_in, sizes, count_rule, bare_rule, and_then, rule}
 use Rattle.format.specs.Content.{Pair, Found, absent, found, find, field, present, number, maybe, size_value}
 use Rattle.format.specs.Content.{counted, psbt_of, global_rule, modifiable, output_rule}
 use Rattle.format.specs.Locks.{or_zero}
+use Rattle.format.specs.declared.MapKind.TheVariants.{Global, Input, Output}
 use Rattle.format.specs.declared.PsbtError.TheVariants.{BadValue}
-use Rattle.format.specs.declared.Size.{Size}
-use Rattle.format.specs.declared.Size.TheVariants.{Bad, Read}
-use Rattle.format.specs.declared.Ruled.{Ruled}
-use Rattle.format.specs.declared.Ruled.TheVariants.{Passed, Refused}
-use Rattle.format.specs.declared.Maybe.TheVariants.{Absent, Present}
+use Rattle.format.specs.Answers.{passed, Maybe, Ruled, Size}
+use Rattle.std.specs.Prelude.{Ok, Err, Some, None}
 use Rattle.format.proofs.Tests.{pick_by}
 use Rattle.format.proofs.Keys.{same_is}
 use Rattle.format.proofs.Numbers.{All}
@@ -30,7 +28,7 @@ use Rattle.claims_reading.proofs.Rises.{rises_from}
 use Rattle.wire.specs.Leads.{lead}
 use Rattle.wire.proofs.Bounds.{count_read}
 use Rattle.known_so_far.specs.SoFar.{noted_by, as_number, as_count, as_there, noted, noted_count, noted_there, note_global}
-use Rattle.known_so_far.specs.SoFar.{note_output, with_globals, with_seen, note, no_globals, unseen, there, all_there}
+use Rattle.known_so_far.specs.SoFar.{note_output, with_globals, with_seen, note_by, note, no_globals, unseen, there, all_there}
 use Rattle.known_so_far.specs.SoFar.{version_rule, globals_rule, psbt_from, flags, seen_rule}
 use Rattle.known_so_far.specs.declared.Globals.{Globals}
 use Rattle.known_so_far.specs.declared.Seen.{Seen}
@@ -48,7 +46,7 @@ or_old read (found v) old = read v
 
 -- keys that rise behind a key have not that key
 absent_behind : (last : List ℕ) (ps : List Pair) → Rises last ps → find last ps ≡ absent
-unfolding find same is_same_def
+unfolding find same
 absent_behind last [] h = refl
 absent_behind last (p ∷ ps) h = rw h.0 (absent_behind last ps (rises_from last p.key ps h.0 h.1))
 
@@ -65,61 +63,66 @@ along_is {A} read t last (p ∷ ps) old h = by (same (key_of t []) p.key) refl (
     by false q i = i old
 
 -- a value that is found keeps the field rule
-found_keeps : (k : ℕ) (key : List ℕ) (ps : List Pair) (v : List ℕ) → All (Keeps (rule k)) ps → find key ps ≡ found v → rule k key v ≡ Passed
+found_keeps : (k : ℕ) (key : List ℕ) (ps : List Pair) (v : List ℕ) → All (Keeps (rule k)) ps → find key ps ≡ found v → rule k key v ≡ passed
 unfolding find
 found_keeps k key [] v a e = let z : ◌≡◌ {A = ℕ} 0 1 = cc in absurd (omega arith)
 found_keeps k key (p ∷ ps) v a e = by (same key p.key) refl (found_keeps k key ps v a.1) e
   where
-    by : (b : Bool) → same key p.key ≡ b → (find key ps ≡ found v → rule k key v ≡ Passed)
-        → pick b (found p.value) (find key ps) ≡ found v → rule k key v ≡ Passed
+    by : (b : Bool) → same key p.key ≡ b → (find key ps ≡ found v → rule k key v ≡ passed)
+        → pick b (found p.value) (find key ps) ≡ found v → rule k key v ≡ passed
     by true q i e =
         let w : p.value ≡ v = cc in
-        subst (λ (x : List ℕ). rule k key x ≡ Passed) w (subst (λ (x : List ℕ). rule k x p.value ≡ Passed) (sym (same_is key p.key q)) a.0)
+        subst (λ (x : List ℕ). rule k key x ≡ passed) w (subst (λ (x : List ℕ). rule k x p.value ≡ passed) (sym (same_is key p.key q)) a.0)
     by false q i e = i e
 
 -- a rule that passes has passed in both its parts
-both_passed : (x y : Ruled) → and_then x y ≡ Passed → (x ≡ Passed) × (y ≡ Passed)
+both_passed : (x y : Ruled) → and_then x y ≡ passed → (x ≡ passed) × (y ≡ passed)
 unfolding and_then
-both_passed Passed y h = (refl, h)
-both_passed (Refused e) y h = let z : ◌≡◌ {A = ℕ} 0 1 = cc in absurd (omega arith)
+both_passed (Ok u) y h = (refl, h)
+both_passed (Err e) y h = let z : ◌≡◌ {A = ℕ} 0 1 = cc in absurd (omega arith)
 
-size_passed : (n m : ℕ) → pick (eqb n m) Passed (Refused BadValue) ≡ Passed → n ≡ m
+size_passed : (n m : ℕ) → pick (eqb n m) passed (Err BadValue) ≡ passed → n ≡ m
 size_passed n m =
-    pick_by (λ (y : Ruled). y ≡ Passed → n ≡ m) (eqb n m) _ _
-    (λ q h. eqb-true n m q) (λ q (h : Refused BadValue ≡ Passed). let z : ◌≡◌ {A = ℕ} 0 1 = cc in absurd (omega arith))
+    pick_by (λ (y : Ruled). y ≡ passed → n ≡ m) (eqb n m) _ _
+    (λ q h. eqb-true n m q) (λ q (h : Err BadValue ≡ passed). let z : ◌≡◌ {A = ℕ} 0 1 = cc in absurd (omega arith))
 
 -- a global field whose row asks m bytes has m
-global_sized : (t m : ℕ) (v : List ℕ) → ((n : ℕ) → sizes GLOBAL t 0 n ≡ pick (eqb n m) Passed (Refused BadValue))
-    → rule GLOBAL (key_of t []) v ≡ Passed → length v ≡ m
+global_sized : (t m : ℕ) (v : List ℕ) → ((n : ℕ) → sizes GLOBAL t 0 n ≡ pick (eqb n m) passed (Err BadValue))
+    → rule GLOBAL (key_of t []) v ≡ passed → length v ≡ m
 unfolding rule key_of type_of data_of
 global_sized t m v is h = size_passed (length v) m (sym (is (length v)) ∙ (both_passed _ _ h).0)
 
 -- a count field that passes is a compact size, whole
-counted_is : (v : List ℕ) (y : Size) → count v ≡ y → count_rule y ≡ Passed → size_value (count v) ≡ size_value (size v)
+counted_is : (v : List ℕ) (y : Size) → count v ≡ y → count_rule y ≡ passed → size_value (count v) ≡ size_value (size v)
 unfolding count_rule count
-counted_is v (Read n u) q h = rw q (unfold size_value in ap size_value (sym (count_read (length v) (count_by_def (length v) (size v)) (size v) n u refl q)))
-counted_is v (Bad e) q h = let z : ◌≡◌ {A = ℕ} 0 1 = cc in absurd (omega arith)
+counted_is v (Ok r) q h = rw q (unfold size_value in ap size_value (sym (count_read (length v) (count_by_def (length v) (size v)) (size v) r refl q)))
+counted_is v (Err e) q h = let z : ◌≡◌ {A = ℕ} 0 1 = cc in absurd (omega arith)
+
+-- the count that a count field's value says, if there is one
+unfoldable pub maybe_counted : Found → Maybe
+maybe_counted absent = None
+maybe_counted (found v) = Some (size_value (size v))
 
 -- what noting gives from nothing on, by what is found
 module _ (ps : List Pair) (h : Rises [] ps) (a : All (Keeps (rule GLOBAL)) ps) where
-  number_along : (t m : ℕ) → m ≤ 4 → ((n : ℕ) → sizes GLOBAL t 0 n ≡ pick (eqb n m) Passed (Refused BadValue))
-      → along_by as_number t ps Absent ≡ maybe (field t ps)
+  number_along : (t m : ℕ) → m ≤ 4 → ((n : ℕ) → sizes GLOBAL t 0 n ≡ pick (eqb n m) passed (Err BadValue))
+      → along_by as_number t ps None ≡ maybe (field t ps)
   unfolding or_old maybe as_number lead field
-  number_along t m l is = along_is as_number t [] ps Absent h ∙ by (field t ps) refl
+  number_along t m l is = along_is as_number t [] ps None h ∙ by (field t ps) refl
     where
-      by : (f : Found) → field t ps ≡ f → or_old as_number f Absent ≡ maybe f
+      by : (f : Found) → field t ps ≡ f → or_old as_number f None ≡ maybe f
       by absent q = refl
       by (found v) q =
           let e : length v ≡ m = global_sized t m v is (found_keeps GLOBAL (key_of t []) ps v a q) in
-          ap (λ (x : List ℕ). Present (le x)) (take_all 4 v (omega arith))
+          ap (λ (x : List ℕ). Some (le x)) (take_all 4 v (omega arith))
 
-  count_along : (t : ℕ) → ((v : List ℕ) → rule GLOBAL (key_of t []) v ≡ count_rule (count v)) → along_by as_count t ps 0 ≡ counted (field t ps)
-  unfolding or_old counted as_count field
-  count_along t is = along_is as_count t [] ps 0 h ∙ by (field t ps) refl
+  count_along : (t : ℕ) → ((v : List ℕ) → rule GLOBAL (key_of t []) v ≡ count_rule (count v)) → along_by as_count t ps None ≡ maybe_counted (field t ps)
+  unfolding or_old maybe_counted as_count field
+  count_along t is = along_is as_count t [] ps None h ∙ by (field t ps) refl
     where
-      by : (f : Found) → field t ps ≡ f → or_old as_count f 0 ≡ counted f
+      by : (f : Found) → field t ps ≡ f → or_old as_count f None ≡ maybe_counted f
       by absent q = refl
-      by (found v) q = counted_is v (count v) refl (sym (is v) ∙ found_keeps GLOBAL (key_of t []) ps v a q)
+      by (found v) q = ap Some (counted_is v (count v) refl (sym (is v) ∙ found_keeps GLOBAL (key_of t []) ps v a q))
 
 there_along : (t : ℕ) (ps : List Pair) → Rises [] ps → along_by as_there t ps false ≡ present (field t ps)
 unfolding or_old present as_there
@@ -143,8 +146,6 @@ globals_along ps g = record {
   n_outputs = along_by as_count 0x05 ps g.n_outputs;
   tx_modifiable = along_by as_number 0x06 ps g.tx_modifiable;
   psbt_version = along_by as_number 0xfb ps g.psbt_version;
-  has_inputs = along_by as_there 0x04 ps g.has_inputs;
-  has_outputs = along_by as_there 0x05 ps g.has_outputs;
 }
 
 -- those of an output
@@ -155,20 +156,20 @@ seen_along ps o = record {
   label = along_by as_there 0x0a ps o.label;
 }
 
-pub note_global_lem : (w : Known) (key v : List ℕ) → w.kind ≡ GLOBAL → note key v w ≡ with_globals w (note_global key v w.globals)
-unfolding note
+pub note_global_lem : (w : Known) (key v : List ℕ) → w.kind ≡ Global → note key v w ≡ with_globals w (note_global key v w.globals)
+unfolding note note_by
 note_global_lem w key v k = rw k
 
-pub note_output_lem : (w : Known) (key v : List ℕ) → w.kind ≡ OUTPUT → note key v w ≡ with_seen w (note_output key v w.seen)
-unfolding note
+pub note_output_lem : (w : Known) (key v : List ℕ) → w.kind ≡ Output → note key v w ≡ with_seen w (note_output key v w.seen)
+unfolding note note_by
 note_output_lem w key v k = rw k
 
-global_all : (w : Known) (ps : List Pair) → w.kind ≡ GLOBAL → note_all w ps ≡ with_globals w (globals_along ps w.globals)
-unfolding note_all with_globals globals_along along_by note_global noted noted_count noted_there
+global_all : (w : Known) (ps : List Pair) → w.kind ≡ Global → note_all w ps ≡ with_globals w (globals_along ps w.globals)
+unfolding note_all with_globals globals_along along_by note_global noted noted_count
 global_all w [] k = refl
 global_all w (p ∷ ps) k = rw (note_global_lem w p.key p.value k) (global_all (with_globals w (note_global p.key p.value w.globals)) ps k)
 
-output_all : (w : Known) (ps : List Pair) → w.kind ≡ OUTPUT → note_all w ps ≡ with_seen w (seen_along ps w.seen)
+output_all : (w : Known) (ps : List Pair) → w.kind ≡ Output → note_all w ps ≡ with_seen w (seen_along ps w.seen)
 unfolding note_all with_seen seen_along along_by note_output noted_there
 output_all w [] k = refl
 output_all w (p ∷ ps) k = rw (note_output_lem w p.key p.value k) (output_all (with_seen w (note_output p.key p.value w.seen)) ps k)
@@ -178,15 +179,13 @@ unfoldable pub found_globals : List Pair → Globals
 found_globals ps = record {
   tx_version = maybe (field 0x02 ps);
   fallback_locktime = maybe (field 0x03 ps);
-  n_inputs = counted (field 0x04 ps);
-  n_outputs = counted (field 0x05 ps);
+  n_inputs = maybe_counted (field 0x04 ps);
+  n_outputs = maybe_counted (field 0x05 ps);
   tx_modifiable = maybe (field 0x06 ps);
   psbt_version = maybe (field 0xfb ps);
-  has_inputs = present (field 0x04 ps);
-  has_outputs = present (field 0x05 ps);
 }
 
-pub global_noted : (w : Known) (ps : List Pair) → w.kind ≡ GLOBAL
+pub global_noted : (w : Known) (ps : List Pair) → w.kind ≡ Global
     → w.globals ≡ no_globals → Rises [] ps → All (Keeps (rule GLOBAL)) ps → note_all w ps ≡ with_globals w (found_globals ps)
 unfolding globals_along found_globals sizes sizes_in is_row row_rule value_fits rule bare_rule key_of type_of data_of and_then
 global_noted w ps k g h a =
@@ -198,46 +197,61 @@ global_noted w ps k g h a =
       count_along ps h a 0x05 (λ v. refl),
       number_along ps h a 0x06 1 (omega arith) (λ n. refl),
       number_along ps h a 0xfb 4 (omega arith) (λ n. refl),
-      there_along 0x04 ps h,
-      there_along 0x05 ps h,
     )
 
 -- what an output has, as it is found
 unfoldable pub found_seen : List Pair → Seen
 found_seen ps = record { script = present (field 0x04 ps); code = present (field 0x09 ps); label = present (field 0x0a ps) }
 
-pub output_noted : (w : Known) (ps : List Pair) → w.kind ≡ OUTPUT → w.seen ≡ unseen → Rises [] ps → note_all w ps ≡ with_seen w (found_seen ps)
+pub output_noted : (w : Known) (ps : List Pair) → w.kind ≡ Output → w.seen ≡ unseen → Rises [] ps → note_all w ps ≡ with_seen w (found_seen ps)
 unfolding seen_along found_seen
 output_noted w ps k o h = output_all w ps k ∙ rw (o, there_along 0x04 ps h, there_along 0x09 ps h, there_along 0x0a ps h)
 
 -- an input's pairs are not noted
-note_input_lem : (w : Known) (key v : List ℕ) → w.kind ≡ INPUT → note key v w ≡ w
-unfolding note
-note_input_lem w key v k = rw (ne_eqb w.kind GLOBAL (λ e. omega arith), ne_eqb w.kind OUTPUT (λ e. omega arith))
+note_input_lem : (w : Known) (key v : List ℕ) → w.kind ≡ Input → note key v w ≡ w
+unfolding note note_by
+note_input_lem w key v k = rw k
 
-pub input_noted : (w : Known) (ps : List Pair) → w.kind ≡ INPUT → note_all w ps ≡ w
+pub input_noted : (w : Known) (ps : List Pair) → w.kind ≡ Input → note_all w ps ≡ w
 unfolding note_all
 input_noted w [] k = refl
 input_noted w (p ∷ ps) k = rw (note_input_lem w p.key p.value k) (input_noted w ps k)
 
 -- what is decided by what was noted is what is decided by what is found
 zero_maybe : (f : Found) → or_zero (maybe f) ≡ number f
-unfolding or_zero maybe number
+unfolding maybe number
 zero_maybe absent = refl
 zero_maybe (found v) = refl
 
 there_maybe : (f : Found) → there (maybe f) ≡ present f
-unfolding there maybe present
+unfolding maybe present
 there_maybe absent = refl
 there_maybe (found v) = refl
 
+zero_counted : (f : Found) → or_zero (maybe_counted f) ≡ counted f
+unfolding maybe_counted counted
+zero_counted absent = refl
+zero_counted (found v) = refl
+
+there_counted : (f : Found) → there (maybe_counted f) ≡ present f
+unfolding maybe_counted present
+there_counted absent = refl
+there_counted (found v) = refl
+
 pub psbt_from_lem : (ps : List Pair) → psbt_from (found_globals ps) ≡ psbt_of ps
 unfolding psbt_from found_globals psbt_of
-psbt_from_lem ps = rw (zero_maybe (field 0x02 ps))
+psbt_from_lem ps = rw (zero_maybe (field 0x02 ps), zero_counted (field 0x04 ps), zero_counted (field 0x05 ps))
 
 pub global_rule_lem : (ps : List Pair) → globals_rule (found_globals ps) ≡ global_rule ps
 unfolding globals_rule all_there version_rule found_globals global_rule
-global_rule_lem ps = rw (there_maybe (field 0x02 ps), there_maybe (field 0xfb ps), zero_maybe (field 0xfb ps))
+global_rule_lem ps =
+    rw (
+      there_maybe (field 0x02 ps),
+      there_counted (field 0x04 ps),
+      there_counted (field 0x05 ps),
+      there_maybe (field 0xfb ps),
+      zero_maybe (field 0xfb ps),
+    )
 
 pub flags_are : (ps : List Pair) → flags (maybe (field 0x06 ps)) ≡ modifiable (field 0x06 ps)
 unfolding flags modifiable
@@ -247,10 +261,10 @@ pub seen_rule_lem : (g ps : List Pair) → seen_rule (found_globals g) (found_se
 unfolding seen_rule found_globals found_seen output_rule
 seen_rule_lem g ps = rw (flags_are g)
 
-pub inputs_counted : (ps : List Pair) → (found_globals ps).n_inputs ≡ counted (field 0x04 ps)
+pub inputs_counted : (ps : List Pair) → or_zero (found_globals ps).n_inputs ≡ counted (field 0x04 ps)
 unfolding found_globals
-inputs_counted ps = refl
+inputs_counted ps = zero_counted (field 0x04 ps)
 
-pub outputs_counted : (ps : List Pair) → (found_globals ps).n_outputs ≡ counted (field 0x05 ps)
+pub outputs_counted : (ps : List Pair) → or_zero (found_globals ps).n_outputs ≡ counted (field 0x05 ps)
 unfolding found_globals
-outputs_counted ps = refl
+outputs_counted ps = zero_counted (field 0x05 ps)

@@ -8,39 +8,37 @@ use lib.Dec.{eqb}
 use lib.ListN.{length}
 use lib.IntN.{ℤ}
 use lib.Bits.{bit_and, and_mask}
+use Rattle.std.proofs.Math.Bool.{and_assoc}
 use Rattle.format.specs.Tests.{pick}
 use Rattle.format.specs.Numbers.{signed}
 use Rattle.format.specs.Keys.{key_of, same}
 use Rattle.format.specs.Compact.{count}
 use Rattle.format.specs.Content.{size_value, output_by}
+use Rattle.format.specs.declared.MapKind.{MapKind}
+use Rattle.format.specs.declared.MapKind.TheVariants.{Global, Input, Output}
 use Rattle.format.specs.declared.PsbtError.{PsbtError}
 use Rattle.format.specs.declared.PsbtError.TheVariants.{MissingCounts, NotAllowed, MissingOutputScript, InvalidSilentPayment}
-use Rattle.format.specs.declared.Ruled.{Ruled}
-use Rattle.format.specs.declared.Ruled.TheVariants.{Passed, Refused}
-use Rattle.format.specs.declared.Size.{Size}
-use Rattle.format.specs.declared.Size.TheVariants as Z
-use Rattle.format.specs.declared.Maybe.{Maybe}
-use Rattle.format.specs.declared.Maybe.TheVariants.{Absent, Present}
-use Rattle.format.specs.Rules.{GLOBAL, OUTPUT}
-use Rattle.format.proofs.Tests.{pick_by}
+use Rattle.format.specs.declared.CompactSize.{CompactSize}
+use Rattle.format.specs.Answers.{passed, Maybe, Ruled, Size}
+use Rattle.std.specs.Prelude.{Ok, Err, Some}
 use Rattle.keys.proofs.Bare.{bare_not}
 use Rattle.wire.specs.Leads.{lead}
 use Rattle.format.specs.Locks.{or_zero}
 use Rattle.known_so_far.specs.SoFar.{noted_by, as_number, as_count, as_there, noted, noted_count, noted_there, note_global, note_output}
-use Rattle.known_so_far.specs.SoFar.{with_globals, with_seen, note, there, all_there, version_rule, globals_rule, psbt_from, flags}
+use Rattle.known_so_far.specs.SoFar.{with_globals, with_seen, note_by, note, there, all_there, version_rule, globals_rule, psbt_from, flags}
 use Rattle.known_so_far.proofs.Notes.{note_global_lem, note_output_lem}
 use Rattle.known_so_far.specs.declared.Globals.{Globals}
 use Rattle.known_so_far.specs.declared.Seen.{Seen}
 use Rattle.known_so_far.specs.declared.Known.{Known}
 
 -- the value of a compact size
-pub size_bad : (x : Size) (e : PsbtError) → x ≡ Z.Bad e → 0 ≡ size_value x
+pub size_bad : (x : Size) (e : PsbtError) → x ≡ Err e → 0 ≡ size_value x
 unfolding size_value
 size_bad x e h = sym (ap size_value h)
 
-pub size_read : (x : Size) (n u : ℕ) → x ≡ Z.Read n u → n ≡ size_value x
+pub size_read : (x : Size) (r : CompactSize) → x ≡ Ok r → r.value ≡ size_value x
 unfolding size_value
-size_read x n u h = sym (ap size_value h)
+size_read x r h = sym (ap size_value h)
 
 pub ruleset sizes_of = (size_bad, size_read)
 
@@ -54,19 +52,19 @@ module _ (t : ℕ) (key v : List ℕ) (b : Bool) (is : b ≡ same (key_of t []) 
   unfolding noted_by
   by_no read old h = rw (sym is ∙ h)
 
-  pub noted_yes : (x : ℕ) (old : Maybe) → b ≡ true → x ≡ lead 4 v → Present x ≡ noted t key v old
+  pub noted_yes : (x : ℕ) (old : Maybe) → b ≡ true → x ≡ lead 4 v → Some x ≡ noted t key v old
   unfolding noted as_number
-  noted_yes x old h e = ap Present e ∙ by_yes as_number old h
+  noted_yes x old h e = ap Some e ∙ by_yes as_number old h
 
   pub noted_no : (old : Maybe) → b ≡ false → old ≡ noted t key v old
   unfolding noted
   noted_no old h = by_no as_number old h
 
-  pub count_yes : (z : Size) (x old : ℕ) → b ≡ true → z ≡ count v → x ≡ size_value z → x ≡ noted_count t key v old
+  pub count_yes : (z : Size) (x : ℕ) (old : Maybe) → b ≡ true → z ≡ count v → x ≡ size_value z → Some x ≡ noted_count t key v old
   unfolding noted_count as_count
-  count_yes z x old h e f = f ∙ ap size_value e ∙ by_yes as_count old h
+  count_yes z x old h e f = ap Some (f ∙ ap size_value e) ∙ by_yes as_count old h
 
-  pub count_no : (old : ℕ) → b ≡ false → old ≡ noted_count t key v old
+  pub count_no : (old : Maybe) → b ≡ false → old ≡ noted_count t key v old
   unfolding noted_count
   count_no old h = by_no as_count old h
 
@@ -80,45 +78,14 @@ module _ (t : ℕ) (key v : List ℕ) (b : Bool) (is : b ≡ same (key_of t []) 
 
 pub ruleset notes = (noted_yes, noted_no, count_yes, count_no, there_yes, there_no)
 
--- what may be absent
-module _ (m : Maybe) where
-  pub there_absent : m ≡ Absent → false ≡ there m
-  unfolding there
-  there_absent h = sym (ap there h)
-
-  pub there_present : (n : ℕ) → m ≡ Present n → true ≡ there m
-  unfolding there
-  there_present n h = sym (ap there h)
-
-pub ruleset maybes = (there_absent, there_present)
-
 -- the fields noted together
-pub note_fields : (g : Globals) (key v : List ℕ) (a b : Maybe) (c d : ℕ) (e f : Maybe) (x y : Bool)
+pub note_fields : (g : Globals) (key v : List ℕ) (a b c d e f : Maybe)
     → a ≡ noted 0x02 key v g.tx_version → b ≡ noted 0x03 key v g.fallback_locktime → c ≡ noted_count 0x04 key v g.n_inputs
     → d ≡ noted_count 0x05 key v g.n_outputs → e ≡ noted 0x06 key v g.tx_modifiable → f ≡ noted 0xfb key v g.psbt_version
-    → x ≡ noted_there 0x04 key [] g.has_inputs → y ≡ noted_there 0x05 key [] g.has_outputs
-    → record {
-      tx_version = a;
-      fallback_locktime = b;
-      n_inputs = c;
-      n_outputs = d;
-      tx_modifiable = e;
-      psbt_version = f;
-      has_inputs = x;
-      has_outputs = y;
-    } ≡ note_global key v g
-unfolding note_global noted_there noted_by as_there
-note_fields g key v a b c d e f x y p q r s t u m n =
-    λ i. record {
-      tx_version = p i;
-      fallback_locktime = q i;
-      n_inputs = r i;
-      n_outputs = s i;
-      tx_modifiable = t i;
-      psbt_version = u i;
-      has_inputs = m i;
-      has_outputs = n i;
-    }
+    → record { tx_version = a; fallback_locktime = b; n_inputs = c; n_outputs = d; tx_modifiable = e; psbt_version = f } ≡ note_global key v g
+unfolding note_global
+note_fields g key v a b c d e f p q r s t u =
+    λ i. record { tx_version = p i; fallback_locktime = q i; n_inputs = r i; n_outputs = s i; tx_modifiable = t i; psbt_version = u i }
 
 pub note_seen : (o : Seen) (key v : List ℕ) (a b c : Bool)
     → a ≡ noted_there 0x04 key v o.script → b ≡ noted_there 0x09 key v o.code → c ≡ noted_there 0x0a key v o.label
@@ -131,57 +98,58 @@ module _ (w : Known) (key v : List ℕ) where
   wide_no : (t : ℕ) → (length key ≡ 1 → ⊥) → same (key_of t []) key ≡ false
   wide_no t h = sym (bare_not key t h)
 
-  pub note_wide : (length key ≡ 1 → ⊥) → w ≡ note key v w
-  unfolding note with_globals with_seen note_global note_output noted noted_count noted_there noted_by
-  note_wide h =
-      sym (rw (wide_no 0x02 h, wide_no 0x03 h, wide_no 0x04 h, wide_no 0x05 h, wide_no 0x06 h, wide_no 0xfb h, wide_no 0x09 h, wide_no 0x0a h)
-      (pick_by (λ (x : Known). x ≡ w) (eqb w.kind GLOBAL) _ _
-      (λ q. refl) (λ q. pick_by (λ (x : Known). x ≡ w) (eqb w.kind OUTPUT) _ _ (λ t. refl) (λ t. refl))))
+  wide_by : (length key ≡ 1 → ⊥) → (k : MapKind) → note_by k key v w ≡ w
+  unfolding note_by with_globals with_seen note_global note_output noted noted_count noted_there noted_by
+  wide_by h Global = rw (wide_no 0x02 h, wide_no 0x03 h, wide_no 0x04 h, wide_no 0x05 h, wide_no 0x06 h, wide_no 0xfb h)
+  wide_by h Input = refl
+  wide_by h Output = rw (wide_no 0x04 h, wide_no 0x09 h, wide_no 0x0a h)
 
-  pub note_g : (g : Globals) → w.kind ≡ GLOBAL → g ≡ note_global key v w.globals
+  pub note_wide : (length key ≡ 1 → ⊥) → w ≡ note key v w
+  unfolding note
+  note_wide h = sym (wide_by h w.kind)
+
+  pub note_g : (g : Globals) → w.kind ≡ Global → g ≡ note_global key v w.globals
       → record { kind = w.kind; globals = g; inputs = w.inputs; outputs = w.outputs; seen = w.seen; ruled = w.ruled } ≡ note key v w
   unfolding with_globals
   note_g g k e = ap (with_globals w) e ∙ sym (note_global_lem w key v k)
 
-  pub note_o : (o : Seen) → (w.kind ≡ GLOBAL → ⊥) → w.kind ≡ OUTPUT → o ≡ note_output key [] w.seen
+  pub note_o : (o : Seen) → w.kind ≡ Output → o ≡ note_output key [] w.seen
       → record { kind = w.kind; globals = w.globals; inputs = w.inputs; outputs = w.outputs; seen = o; ruled = w.ruled } ≡ note key v w
   unfolding with_seen note_output noted_there noted_by as_there
-  note_o o h k e = ap (with_seen w) e ∙ sym (note_output_lem w key v k)
+  note_o o k e = ap (with_seen w) e ∙ sym (note_output_lem w key v k)
 
-  pub note_i : (w.kind ≡ GLOBAL → ⊥) → (w.kind ≡ OUTPUT → ⊥) → w ≡ note key v w
-  unfolding note
-  note_i h k = sym (rw (ne_eqb w.kind GLOBAL h, ne_eqb w.kind OUTPUT k))
+  pub note_i : w.kind ≡ Input → w ≡ note key v w
+  unfolding note note_by
+  note_i k = sym (rw k)
 
 pub ruleset pair_notes = (note_wide, note_g, note_o, note_i)
 
 -- all that has to be in the global map
-module _ (g : Globals) (a d : Bool) (p : a ≡ there g.tx_version) (q : d ≡ there g.psbt_version) where
-  pub no_version : a ≡ false → a ≡ all_there g
+-- one test and then another: v is what both say
+module _ (a x y v : Bool) (p : a ≡ x) where
+  pub both_no : a ≡ false → v ≡ a → v ≡ (x && y)
+  both_no h e = e ∙ h ∙ sym (rw (sym p ∙ h))
+
+  pub both_yes : a ≡ true → (b : Bool) → b ≡ y → v ≡ b → v ≡ (x && y)
+  both_yes h b q e = e ∙ q ∙ sym (rw (sym p ∙ h))
+
+module _ (g : Globals) (a : Bool) (p : a ≡ ((there g.tx_version && there g.n_inputs) && there g.n_outputs)) where
+  pub some_missing : a ≡ false → a ≡ all_there g
   unfolding all_there
-  no_version h = h ∙ sym (rw (sym p ∙ h))
+  some_missing h = both_no a _ (there g.psbt_version) a p h refl ∙ simp and_assoc
 
-  module _ (h : a ≡ true) where
-    pub no_inputs : g.has_inputs ≡ false → g.has_inputs ≡ all_there g
-    unfolding all_there
-    no_inputs k = k ∙ sym (rw (sym p ∙ h, k))
+  pub counts_there : a ≡ true → (b : Bool) → b ≡ there g.psbt_version → b ≡ all_there g
+  unfolding all_there
+  counts_there h b q = both_yes a _ (there g.psbt_version) b p h b q refl ∙ simp and_assoc
 
-    module _ (k : g.has_inputs ≡ true) where
-      pub no_outputs : g.has_outputs ≡ false → g.has_outputs ≡ all_there g
-      unfolding all_there
-      no_outputs l = l ∙ sym (rw (sym p ∙ h, k, l))
-
-      pub counts_there : g.has_outputs ≡ true → d ≡ all_there g
-      unfolding all_there
-      counts_there l = q ∙ sym (rw (sym p ∙ h, k, l))
-
-pub ruleset all_theres = (no_version, no_inputs, no_outputs, counts_there)
+pub ruleset all_theres = (both_no, both_yes, some_missing, counts_there)
 
 module _ (m : Maybe) (n : ℕ) (e : n ≡ or_zero m) where
-  pub version_two : n ≡ 2 → Passed ≡ version_rule m
+  pub version_two : n ≡ 2 → passed ≡ version_rule m
   unfolding version_rule
   version_two h = sym (rw (← e, eq-eqb n 2 h))
 
-  pub version_other : (n ≡ 2 → ⊥) → Refused NotAllowed ≡ version_rule m
+  pub version_other : (n ≡ 2 → ⊥) → Err NotAllowed ≡ version_rule m
   unfolding version_rule
   version_other h = sym (rw (← e, ne_eqb n 2 h))
 
@@ -190,61 +158,55 @@ module _ (g : Globals) (b : Bool) (e : b ≡ all_there g) where
   unfolding globals_rule
   rule_there y h q = q ∙ sym (rw (sym e ∙ h))
 
-  pub rule_missing : b ≡ false → Refused MissingCounts ≡ globals_rule g
+  pub rule_missing : b ≡ false → Err MissingCounts ≡ globals_rule g
   unfolding globals_rule
   rule_missing h = sym (rw (sym e ∙ h))
 
 pub ruleset globals = (version_two, version_other, rule_there, rule_missing)
 
 -- the rule of an output: a label is fine beside a code
-labelled : (l : Bool) → pick (l && false) (Refused InvalidSilentPayment) Passed ≡ Passed
+labelled : (l : Bool) → pick (l && false) (Err InvalidSilentPayment) passed ≡ passed
 labelled true = refl
 labelled false = refl
 
 module _ (f s c l : Bool) where
-  pub out_none : s ≡ false → c ≡ false → Refused MissingOutputScript ≡ output_by f s c l
+  pub out_none : s ≡ false → c ≡ false → Err MissingOutputScript ≡ output_by f s c l
   unfolding output_by
   out_none h k = sym (rw (h, k))
 
-  pub out_code : s ≡ false → c ≡ true → Passed ≡ output_by f s c l
+  pub out_code : s ≡ false → c ≡ true → passed ≡ output_by f s c l
   unfolding output_by
   out_code h k = sym (rw (h, k) (labelled l))
 
-  pub out_script : s ≡ true → c ≡ false → l ≡ false → Passed ≡ output_by f s c l
+  pub out_script : s ≡ true → c ≡ false → l ≡ false → passed ≡ output_by f s c l
   unfolding output_by
   out_script h k m = sym (rw (h, k, m))
 
-  pub out_label : s ≡ true → c ≡ false → l ≡ true → Refused InvalidSilentPayment ≡ output_by f s c l
+  pub out_label : s ≡ true → c ≡ false → l ≡ true → Err InvalidSilentPayment ≡ output_by f s c l
   unfolding output_by
   out_label h k m = sym (rw (h, k, m))
 
   module _ (b : Bool) (e : b ≡ f) where
-    pub out_flags : s ≡ true → c ≡ true → b ≡ true → Refused InvalidSilentPayment ≡ output_by f s c l
+    pub out_flags : s ≡ true → c ≡ true → b ≡ true → Err InvalidSilentPayment ≡ output_by f s c l
     unfolding output_by
     out_flags h k m = sym (rw (h, k, sym e ∙ m))
 
-    pub out_both : s ≡ true → c ≡ true → b ≡ false → Passed ≡ output_by f s c l
+    pub out_both : s ≡ true → c ≡ true → b ≡ false → passed ≡ output_by f s c l
     unfolding output_by
     out_both h k m = sym (rw (h, k, sym e ∙ m) (labelled l))
 
 pub ruleset outputs = (out_none, out_code, out_script, out_label, out_flags, out_both)
 
 -- what is reported
-pub report : (g : Globals) (n : ℕ) (z : ℤ) → n ≡ or_zero g.tx_version → z ≡ signed n
-    → record {
-      tx_version = z;
-      fallback_locktime = g.fallback_locktime;
-      tx_modifiable = g.tx_modifiable;
-      inputs = g.n_inputs;
-      outputs = g.n_outputs;
-    } ≡ psbt_from g
+pub report : (g : Globals) (n : ℕ) (z : ℤ) (i o : ℕ) → n ≡ or_zero g.tx_version → z ≡ signed n → i ≡ or_zero g.n_inputs → o ≡ or_zero g.n_outputs
+    → record { tx_version = z; fallback_locktime = g.fallback_locktime; tx_modifiable = g.tx_modifiable; inputs = i; outputs = o } ≡ psbt_from g
 unfolding psbt_from
-report g n z p q = λ j. record {
+report g n z i o p q r s = λ j. record {
   tx_version = (q ∙ ap signed p) j;
   fallback_locktime = g.fallback_locktime;
   tx_modifiable = g.tx_modifiable;
-  inputs = g.n_inputs;
-  outputs = g.n_outputs;
+  inputs = r j;
+  outputs = s j;
 }
 
 -- the two low flags

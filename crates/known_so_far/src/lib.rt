@@ -8,26 +8,23 @@ ghost use Rattle.known_so_far.specs.SoFar.{noted, noted_count, noted_there, note
 ghost use Rattle.known_so_far.specs.SoFar.{psbt_from, flags, close_global, close_output, close, finish, start, after, there, at_first};
 
 use format::{
-    GLOBAL, INPUT, Maybe, OUTPUT, PSBT_GLOBAL_FALLBACK_LOCKTIME, PSBT_GLOBAL_INPUT_COUNT,
+    CompactSize, MapKind, PSBT_GLOBAL_FALLBACK_LOCKTIME, PSBT_GLOBAL_INPUT_COUNT,
     PSBT_GLOBAL_OUTPUT_COUNT, PSBT_GLOBAL_TX_MODIFIABLE, PSBT_GLOBAL_TX_VERSION,
     PSBT_GLOBAL_VERSION, PSBT_OUT_SCRIPT, PSBT_OUT_SP_V0_INFO, PSBT_OUT_SP_V0_LABEL, Psbt,
-    PsbtError, Ruled, Size,
+    PsbtError,
 };
 use keys::is_bare;
 use wire::{signed, u32_from_le_bytes, u64_from_compact_size};
 
-// What is known of the global map: its fields without key data. An absent count is 0 and has its flag unset; the flags
-// stand behind the wider fields.
+// What is known of the global map: its fields without key data.
 #[derive(Clone, Copy)]
 pub struct Globals {
-    pub tx_version: Maybe,
-    pub fallback_locktime: Maybe,
-    pub n_inputs: u64,
-    pub n_outputs: u64,
-    pub tx_modifiable: Maybe,
-    pub psbt_version: Maybe,
-    pub has_inputs: bool,
-    pub has_outputs: bool,
+    pub tx_version: Option<u32>,
+    pub fallback_locktime: Option<u32>,
+    pub n_inputs: Option<u64>,
+    pub n_outputs: Option<u64>,
+    pub tx_modifiable: Option<u32>,
+    pub psbt_version: Option<u32>,
 }
 
 // Which of script 04, code 09 and label 0a the output that is read has.
@@ -54,58 +51,50 @@ pub struct Known {
     pub inputs: u64,
     pub outputs: u64,
     pub seen: Seen,
-    pub ruled: Ruled,
-    pub kind: u8,
+    pub ruled: Result<(), PsbtError>,
+    pub kind: MapKind,
 }
 
-// What is known where a map ended, or the refusal.
-#[derive(Clone, Copy)]
-pub enum Closed {
-    Bad(PsbtError),
-    Good(Known),
-}
-
-// What follows a map: a refusal, the end of the file, or another map with what is known before it.
+// What follows a map: the end of the file, or another map with what is known before it.
 #[derive(Clone, Copy)]
 pub enum Next {
-    Stop(PsbtError),
     Done(Psbt),
     Map(Known),
 }
 
 // The value of a compact size, 0 where it could not be read.
-fn size_value(x: Size) -> u64
+fn size_value(x: Result<CompactSize, PsbtError>) -> u64
     ensures { result ≡ size_value x }
 {
     match x {
-        Size::Bad(e) => 0,
-        Size::Read { value, used } => value,
+        Err(_) => 0,
+        Ok(size) => size.value,
     }
 }
 
 // A field of at most four bytes after a pair.
-fn noted(key_type: u8, key: &[u8], value: &[u8], old: Maybe) -> Maybe
+fn noted(key_type: u8, key: &[u8], value: &[u8], old: Option<u32>) -> Option<u32>
     ensures { result ≡ noted key_type key.now value.now old }
 {
     if is_bare(key, key_type) {
-        Maybe::Present(u32_from_le_bytes(value))
+        Some(u32_from_le_bytes(value))
     } else {
         old
     }
 }
 
 // A count field after a pair.
-fn noted_count(key_type: u8, key: &[u8], value: &[u8], old: u64) -> u64
+fn noted_count(key_type: u8, key: &[u8], value: &[u8], old: Option<u64>) -> Option<u64>
     ensures { result ≡ noted_count key_type key.now value.now old }
 {
     if is_bare(key, key_type) {
-        size_value(u64_from_compact_size(value))
+        Some(size_value(u64_from_compact_size(value)))
     } else {
         old
     }
 }
 
-// Whether a field is there, after a pair.
+// Whether an output has a field, after a pair.
 fn noted_there(key_type: u8, key: &[u8], old: bool) -> bool
     ensures { result ≡ noted_there key_type key.now [] old }
 {
@@ -116,25 +105,18 @@ fn noted_there(key_type: u8, key: &[u8], old: bool) -> bool
 fn note_global(g: Globals, key: &[u8], value: &[u8]) -> Globals
     ensures { result ≡ note_global key.now value.now g }
 {
-    let old = g.tx_version;
-    let tx_version = noted(PSBT_GLOBAL_TX_VERSION, key, value, old);
-    let old = g.fallback_locktime;
-    let fallback_locktime = noted(PSBT_GLOBAL_FALLBACK_LOCKTIME, key, value, old);
-    let n_inputs = noted_count(PSBT_GLOBAL_INPUT_COUNT, key, value, g.n_inputs);
-    let n_outputs = noted_count(PSBT_GLOBAL_OUTPUT_COUNT, key, value, g.n_outputs);
-    let old = g.tx_modifiable;
-    let tx_modifiable = noted(PSBT_GLOBAL_TX_MODIFIABLE, key, value, old);
-    let old = g.psbt_version;
-    let psbt_version = noted(PSBT_GLOBAL_VERSION, key, value, old);
     Globals {
-        tx_version,
-        fallback_locktime,
-        n_inputs,
-        n_outputs,
-        tx_modifiable,
-        psbt_version,
-        has_inputs: noted_there(PSBT_GLOBAL_INPUT_COUNT, key, g.has_inputs),
-        has_outputs: noted_there(PSBT_GLOBAL_OUTPUT_COUNT, key, g.has_outputs),
+        tx_version: noted(PSBT_GLOBAL_TX_VERSION, key, value, g.tx_version),
+        fallback_locktime: noted(
+            PSBT_GLOBAL_FALLBACK_LOCKTIME,
+            key,
+            value,
+            g.fallback_locktime,
+        ),
+        n_inputs: noted_count(PSBT_GLOBAL_INPUT_COUNT, key, value, g.n_inputs),
+        n_outputs: noted_count(PSBT_GLOBAL_OUTPUT_COUNT, key, value, g.n_outputs),
+        tx_modifiable: noted(PSBT_GLOBAL_TX_MODIFIABLE, key, value, g.tx_modifiable),
+        psbt_version: noted(PSBT_GLOBAL_VERSION, key, value, g.psbt_version),
     }
 }
 
@@ -156,30 +138,16 @@ pub fn note_pair(known: Known, key: &[u8], value: &[u8]) -> Known
     if key.len() != 1 {
         return known;
     }
-    let globals = known.globals;
-    let seen = known.seen;
-    if known.kind == GLOBAL {
-        return Known {
-            globals: note_global(globals, key, value),
+    match known.kind {
+        MapKind::Global => Known {
+            globals: note_global(known.globals, key, value),
             ..known
-        };
-    }
-    if known.kind == OUTPUT {
-        return Known {
-            seen: note_output(seen, key),
+        },
+        MapKind::Input => known,
+        MapKind::Output => Known {
+            seen: note_output(known.seen, key),
             ..known
-        };
-    }
-    known
-}
-
-// A field that may be absent is there.
-fn is_there(m: Maybe) -> bool
-    ensures { result ≡ there m }
-{
-    match m {
-        Maybe::Absent => false,
-        Maybe::Present(n) => true,
+        },
     }
 }
 
@@ -187,33 +155,32 @@ fn is_there(m: Maybe) -> bool
 fn has_counts(g: Globals) -> bool
     ensures { result ≡ all_there g }
 {
-    let tx_version = g.tx_version;
-    let psbt_version = g.psbt_version;
-    let has_tx_version = is_there(tx_version);
-    let has_psbt_version = is_there(psbt_version);
-    has_tx_version && (g.has_inputs && (g.has_outputs && has_psbt_version))
+    g.tx_version.is_some()
+        && g.n_inputs.is_some()
+        && g.n_outputs.is_some()
+        && g.psbt_version.is_some()
 }
 
 // The version is 2.
-fn check_version(psbt_version: Maybe) -> Ruled
+fn check_version(psbt_version: Option<u32>) -> Result<(), PsbtError>
     ensures { result ≡ version_rule psbt_version }
 {
-    if psbt_version.or_zero() == 2 {
-        Ruled::Passed
+    if psbt_version.unwrap_or(0) == 2 {
+        Ok(())
     } else {
-        Ruled::Refused(PsbtError::NotAllowed)
+        Err(PsbtError::NotAllowed)
     }
 }
 
 // The rule of the global map: what has to be there, then the version.
-fn check_globals(g: Globals) -> Ruled
+fn check_globals(g: Globals) -> Result<(), PsbtError>
     ensures { result ≡ globals_rule g }
 {
     let psbt_version = g.psbt_version;
     if has_counts(g) {
         check_version(psbt_version)
     } else {
-        Ruled::Refused(PsbtError::MissingCounts)
+        Err(PsbtError::MissingCounts)
     }
 }
 
@@ -221,72 +188,63 @@ fn check_globals(g: Globals) -> Ruled
 fn psbt_of(g: Globals) -> Psbt
     ensures { result ≡ psbt_from g }
 {
-    let tx_version = g.tx_version;
-    let fallback_locktime = g.fallback_locktime;
-    let tx_modifiable = g.tx_modifiable;
-    let inputs = g.n_inputs;
-    let outputs = g.n_outputs;
     Psbt {
-        tx_version: signed(tx_version.or_zero()),
-        fallback_locktime,
-        tx_modifiable,
-        inputs,
-        outputs,
+        tx_version: signed(g.tx_version.unwrap_or(0)),
+        fallback_locktime: g.fallback_locktime,
+        tx_modifiable: g.tx_modifiable,
+        inputs: g.n_inputs.unwrap_or(0),
+        outputs: g.n_outputs.unwrap_or(0),
     }
 }
 
 // Any of the two low flags of the modifiable byte is set.
-fn is_modifiable(tx_modifiable: Maybe) -> bool
+fn is_modifiable(tx_modifiable: Option<u32>) -> bool
     ensures { result ≡ flags tx_modifiable }
 {
-    tx_modifiable.or_zero() & 0b11 != 0
+    tx_modifiable.unwrap_or(0) & 0b11 != 0
 }
 
 // The rules of silent payments for one output.
-fn validate_silent_payment_output(tx_modifiable: Maybe, seen: Seen) -> Ruled
+fn validate_silent_payment_output(tx_modifiable: Option<u32>, seen: Seen) -> Result<(), PsbtError>
     ensures { result ≡ output_by (flags tx_modifiable) seen.script seen.code seen.label }
 {
     if seen.script {
         if seen.code {
             if is_modifiable(tx_modifiable) {
-                return Ruled::Refused(PsbtError::InvalidSilentPayment);
+                return Err(PsbtError::InvalidSilentPayment);
             }
-            return Ruled::Passed;
+            return Ok(());
         }
         if seen.label {
-            return Ruled::Refused(PsbtError::InvalidSilentPayment);
+            return Err(PsbtError::InvalidSilentPayment);
         }
-        return Ruled::Passed;
+        return Ok(());
     }
     if seen.code {
-        return Ruled::Passed;
+        return Ok(());
     }
-    Ruled::Refused(PsbtError::MissingOutputScript)
+    Err(PsbtError::MissingOutputScript)
 }
 
 // One rule and then another: the first refusal.
-fn and_then(a: Ruled, b: Ruled) -> Ruled
+fn and_then(a: Result<(), PsbtError>, b: Result<(), PsbtError>) -> Result<(), PsbtError>
     ensures { result ≡ and_then a b }
 {
-    match a {
-        Ruled::Passed => b,
-        Ruled::Refused(e) => Ruled::Refused(e),
-    }
+    a?;
+    b
 }
 
 // Where the global map ended: its rule, and then how many inputs and outputs follow.
-fn close_global(known: Known) -> Closed
+fn close_global(known: Known) -> Result<Known, PsbtError>
     ensures { result ≡ close_global known (globals_rule known.globals) }
 {
     let globals = known.globals;
-    match check_globals(globals) {
-        Ruled::Refused(e) => Closed::Bad(e),
-        Ruled::Passed => Closed::Good(Known {
-            inputs: globals.n_inputs,
-            outputs: globals.n_outputs,
-            ..known
-        }),
-    }
+    check_globals(globals)?;
+    Ok(Known {
+        inputs: globals.n_inputs.unwrap_or(0),
+        outputs: globals.n_outputs.unwrap_or(0),
+        ..known
+    })
 }
 
 // Where an output ended: the first breach of the output rules is kept.
@@ -304,63 +262,56 @@ fn close_output(known: Known) -> Known
 }
 
 // Where the map that is read ended.
-fn close_map(known: Known) -> Closed
+fn close_map(known: Known) -> Result<Known, PsbtError>
     ensures { result ≡ close known }
 {
-    if known.kind == GLOBAL {
-        return close_global(known);
+    match known.kind {
+        MapKind::Global => close_global(known),
+        MapKind::Input => Ok(known),
+        MapKind::Output => Ok(close_output(known)),
     }
-    if known.kind == OUTPUT {
-        return Closed::Good(close_output(known));
-    }
-    Closed::Good(known)
 }
 
 // After all maps: nothing is left over, and then the output rules.
-fn finish(known: Known, left: bool) -> Next
+fn finish(known: Known, left: bool) -> Result<Next, PsbtError>
     ensures { result ≡ finish known left }
 {
-    let globals = known.globals;
-    let ruled = known.ruled;
     if left {
-        return Next::Stop(PsbtError::UnexpectedEof);
+        return Err(PsbtError::UnexpectedEof);
     }
-    match ruled {
-        Ruled::Passed => Next::Done(psbt_of(globals)),
-        Ruled::Refused(e) => Next::Stop(e),
-    }
+    let ruled = known.ruled;
+    ruled?;
+    Ok(Next::Done(psbt_of(known.globals)))
 }
 
 // The next map: an input, an output, or none.
-fn start_map(known: Known, left: bool) -> Next
+fn start_map(known: Known, left: bool) -> Result<Next, PsbtError>
     ensures { result ≡ start known left }
 {
     if 0 < known.inputs {
-        return Next::Map(Known {
-            kind: INPUT,
+        return Ok(Next::Map(Known {
+            kind: MapKind::Input,
             inputs: known.inputs - 1,
             ..known
-        });
+        }));
     }
     if 0 < known.outputs {
-        return Next::Map(Known {
-            kind: OUTPUT,
+        return Ok(Next::Map(Known {
+            kind: MapKind::Output,
             outputs: known.outputs - 1,
             seen: UNSEEN,
             ..known
-        });
+        }));
     }
     finish(known, left)
 }
 
 // What follows the map that is read.
-pub fn after_map(known: Known, left: bool) -> Next
+pub fn after_map(known: Known, left: bool) -> Result<Next, PsbtError>
     ensures { result ≡ after known left }
 {
-    match close_map(known) {
-        Closed::Bad(e) => Next::Stop(e),
-        Closed::Good(now_known) => start_map(now_known, left),
-    }
+    let closed = close_map(known)?;
+    start_map(closed, left)
 }
 
 // What is known before the first map.
@@ -368,20 +319,18 @@ pub fn first_map() -> Known
     ensures { result ≡ at_first }
 {
     Known {
-        kind: GLOBAL,
+        kind: MapKind::Global,
         globals: Globals {
-            tx_version: Maybe::Absent,
-            fallback_locktime: Maybe::Absent,
-            n_inputs: 0,
-            n_outputs: 0,
-            tx_modifiable: Maybe::Absent,
-            psbt_version: Maybe::Absent,
-            has_inputs: false,
-            has_outputs: false,
+            tx_version: None,
+            fallback_locktime: None,
+            n_inputs: None,
+            n_outputs: None,
+            tx_modifiable: None,
+            psbt_version: None,
         },
         inputs: 0,
         outputs: 0,
         seen: UNSEEN,
-        ruled: Ruled::Passed,
+        ruled: Ok(()),
     }
 }

@@ -7,15 +7,15 @@ use native.Mathlib.Omega.{arith}
 use borrow.Author.Tests.{lt-ltb, le-ltb}
 use lib.ListN.{drop}
 use lib.Seq.{take-take}
+use Rattle.std.specs.Prelude.{Option, None, Some}
 use Rattle.format.specs.Entries.{shown}
 use Rattle.format.specs.Numbers.{le}
-use Rattle.format.specs.Lookups.{part}
 use Rattle.format.specs.Locks.{in_of}
 use Rattle.format.specs.declared.MapEntry.{MapEntry}
-use Rattle.format.specs.declared.Looked.TheVariants as K
 use Rattle.wire.specs.Leads.{lead}
 use Rattle.entries.specs.Words.{map_count, map_at}
 use Rattle.fitness.specs.Fits.{entries_of}
+use Rattle.fitness.specs.Parts.{bytes_at}
 use Rattle.all_maps_fit.specs.Alls.{Usable, Whole, pairs_of, in_at}
 use Rattle.all_maps_fit.specs.Places.{sized_in, input_in}
 use Rattle.all_maps_fit.specs.declared.SizedAt.{SizedAt}
@@ -24,10 +24,6 @@ use Rattle.all_maps_fit.specs.declared.InputAt.{InputAt}
 use Rattle.lock.specs.declared.Wish.{Wish}
 use Rattle.lock.specs.declared.Wish.TheVariants.{Nothing, Wrong, Number}
 use Rattle.lock.specs.declared.Most.{Most}
-use Rattle.lock.specs.declared.Kind.{Kind}
-use Rattle.lock.specs.declared.Kind.TheVariants.{Unasked, Asked}
-use Rattle.lock.specs.declared.Fault.{Fault}
-use Rattle.lock.specs.declared.Fault.TheVariants.{Nowhere, Input}
 use Rattle.lock.specs.declared.Asks.{Asks}
 use Rattle.lock.specs.Asks.{wish_of, is_wrong, raised, topped_by, fault_by, seen, seen_in}
 
@@ -41,34 +37,31 @@ module _ (f : List ℕ) (x : SizedAt) where
   unfolding wish_of sized_in
   wish_wrong e = rw e
 
-  pub wish_number : (s n : ℕ) (v : List ℕ) → x ≡ S.At s → v ≡ part f (K.At s 4) → n ≡ lead 4 v → Number n ≡ wish_of (sized_in 4 f x)
-  unfolding wish_of sized_in lead part
+  pub wish_number : (s n : ℕ) (v : List ℕ) → x ≡ S.At s → v ≡ bytes_at f s 4 → n ≡ lead 4 v → Number n ≡ wish_of (sized_in 4 f x)
+  unfolding wish_of sized_in lead bytes_at
   wish_number s n v e q r = ap Number (r ∙ ap (lead 4) q ∙ ap le (take-take 4 4 (drop s f) (omega arith))) ∙ sym (rw e)
 
 pub ruleset wishes = (wish_missing, wish_wrong, wish_number)
 
-pub wrong_by : (w x : Wish) (b : Bool) → w ≡ x → b ≡ is_wrong x → b ≡ is_wrong w
-wrong_by w x b e h = h ∙ sym (ap is_wrong e)
-
 -- one more number
-module _ (k : Kind) (n i : ℕ) where
-  pub raise_first : k ≡ Unasked → Asked (record { first = i; number = n; input = i }) ≡ raised k n i
+module _ (k : Option Most) (n i : ℕ) where
+  pub raise_first : k ≡ None → Some (record { first = i; number = n; input = i }) ≡ raised k n i
   unfolding raised
   raise_first e = rw e
 
-  module _ (m : Most) (e : k ≡ Asked m) where
-    pub raise_more : m.number < n → Asked (record { first = m.first; number = n; input = i }) ≡ raised k n i
+  module _ (m : Most) (e : k ≡ Some m) where
+    pub raise_more : m.number < n → Some (record { first = m.first; number = n; input = i }) ≡ raised k n i
     unfolding raised
     raise_more h = rw (e, lt-ltb m.number n h)
 
-    pub raise_same : n ≤ m.number → Asked m ≡ raised k n i
+    pub raise_same : n ≤ m.number → Some m ≡ raised k n i
     unfolding raised
     raise_same h = rw (e, le-ltb m.number n h)
 
 pub ruleset raises = (raise_first, raise_more, raise_same)
 
 -- one more wish
-module _ (k : Kind) (w : Wish) (i : ℕ) where
+module _ (k : Option Most) (w : Wish) (i : ℕ) where
   pub more_nothing : w ≡ Nothing → k ≡ topped_by k w i
   unfolding topped_by
   more_nothing e = rw e
@@ -77,36 +70,37 @@ module _ (k : Kind) (w : Wish) (i : ℕ) where
   unfolding topped_by
   more_wrong e = rw e
 
-  pub more_number : (n : ℕ) (r : Kind) → w ≡ Number n → r ≡ raised k n i → r ≡ topped_by k w i
+  pub more_number : (n : ℕ) (r : Option Most) → w ≡ Number n → r ≡ raised k n i → r ≡ topped_by k w i
   unfolding topped_by
   more_number n r e q = rw e q
 
 pub ruleset mores = (more_nothing, more_wrong, more_number)
 
 -- the first fault
-module _ (c : Fault) (h t : Wish) (i : ℕ) where
-  pub fault_old : (j : ℕ) → c ≡ Input j → Input j ≡ fault_by c h t i
+module _ (c : Option ℕ) (h t : Wish) (i : ℕ) where
+  pub fault_old : (j : ℕ) → c ≡ Some j → Some j ≡ fault_by c h t i
   unfolding fault_by
   fault_old j e = rw e
 
-  module _ (e : c ≡ Nowhere) (a : Bool) (ea : a ≡ is_wrong h) where
-    pub fault_height : a ≡ true → Input i ≡ fault_by c h t i
+  module _ (e : c ≡ None) (a : Bool) (ea : a ≡ is_wrong h) where
+    pub fault_height : a ≡ true → Some i ≡ fault_by c h t i
     unfolding fault_by
     fault_height p = rw (e, sym ea ∙ p)
 
     module _ (p : a ≡ false) (b : Bool) (eb : b ≡ is_wrong t) where
-      pub fault_time : b ≡ true → Input i ≡ fault_by c h t i
+      pub fault_time : b ≡ true → Some i ≡ fault_by c h t i
       unfolding fault_by
       fault_time q = rw (e, sym ea ∙ p, sym eb ∙ q)
 
-      pub fault_none : b ≡ false → Nowhere ≡ fault_by c h t i
+      pub fault_none : b ≡ false → None ≡ fault_by c h t i
       unfolding fault_by
       fault_none q = rw (e, sym ea ∙ p, sym eb ∙ q)
 
 pub ruleset faults = (fault_old, fault_height, fault_time, fault_none)
 
 -- one more input
-pub see_is : (a : Asks) (i : ℕ) (h t : Wish) (c : Fault) (x y : Kind) → c ≡ fault_by a.fault h t i → x ≡ topped_by a.height h i → y ≡ topped_by a.time t i
+pub see_is : (a : Asks) (i : ℕ) (h t : Wish) (c : Option ℕ) (x y : Option Most) → c ≡ fault_by a.fault h t i → x ≡ topped_by a.height h i → y
+    ≡ topped_by a.time t i
     → record { fault = c; height = x; time = y } ≡ seen a i h t
 unfolding seen
 see_is a i h t c x y p q r = λ j. record { fault = p j; height = q j; time = r j }

@@ -12,7 +12,7 @@ ghost use Rattle.lock.specs.Asks.{wish_of, is_wrong, raised, topped_by, fault_by
 ghost use Rattle.lock.specs.Asks.{height_by, time_by, decide_kinds, decide_asks, locked_by};
 
 use all_maps_fit::{InputAt, SizedAt};
-use format::{Lock, Looked, Maybe, Psbt, PsbtError, Ruled, THRESHOLD};
+use format::{Lock, Psbt, PsbtError, THRESHOLD};
 
 // What an input asks for by one of its fields.
 #[derive(Clone, Copy)]
@@ -30,33 +30,12 @@ pub struct Most {
     pub input: u64,
 }
 
-// What inputs ask for by one kind of lock.
-#[derive(Clone, Copy)]
-pub enum Kind {
-    Unasked,
-    Asked(Most),
-}
-
-// The first input with a field of a wrong length.
-#[derive(Clone, Copy)]
-pub enum Fault {
-    Nowhere,
-    Input(u64),
-}
-
-// What inputs ask for.
+// What inputs ask for: the first one with a field of a wrong length, and what is asked by each kind of lock.
 #[derive(Clone, Copy)]
 pub struct Asks {
-    pub fault: Fault,
-    pub height: Kind,
-    pub time: Kind,
-}
-
-// The lock time, or the refusal.
-#[derive(Clone, Copy)]
-pub enum LockTime {
-    Refused(PsbtError),
-    Is(u32),
+    pub fault: Option<u64>,
+    pub height: Option<Most>,
+    pub time: Option<Most>,
 }
 
 // What an input asks for by the field that stands at a place.
@@ -67,8 +46,7 @@ fn wish_at(file: &[u8], x: SizedAt) -> Wish
         SizedAt::Missing => Wish::Nothing,
         SizedAt::Misfit => Wish::Wrong,
         SizedAt::At { start } => {
-            let looked = Looked::At { start, len: 4 };
-            Wish::Number(wire::u32_from_le_bytes(lookup::part_of(file, looked)))
+            Wish::Number(wire::u32_from_le_bytes(fitness::bytes_at(file, start, 4)))
         }
     }
 }
@@ -77,63 +55,46 @@ fn wish_at(file: &[u8], x: SizedAt) -> Wish
 fn is_wrong(wish: Wish) -> bool
     ensures { result ≡ is_wrong wish }
 {
-    match wish {
-        Wish::Nothing => false,
-        Wish::Wrong => true,
-        Wish::Number(_) => false,
-    }
+    matches!(wish, Wish::Wrong)
 }
 
 // One more number that an input asks for: of equal ones the first stays.
-fn raise(kind: Kind, number: u32, input: u64) -> Kind
+fn raise(kind: Option<Most>, number: u32, input: u64) -> Option<Most>
     ensures { result ≡ raised kind number input }
 {
     match kind {
-        Kind::Unasked => Kind::Asked(Most {
+        None => Some(Most {
             first: input,
             number,
             input,
         }),
-        Kind::Asked(most) => {
-            if most.number < number {
-                Kind::Asked(Most {
-                    number,
-                    input,
-                    ..most
-                })
-            } else {
-                Kind::Asked(most)
-            }
-        }
+        Some(most) if most.number < number => Some(Most {
+            number,
+            input,
+            ..most
+        }),
+        Some(_) => kind,
     }
 }
 
 // The same by what an input asks for: nothing, or a number.
-fn ask_more(kind: Kind, wish: Wish, input: u64) -> Kind
+fn ask_more(kind: Option<Most>, wish: Wish, input: u64) -> Option<Most>
     ensures { result ≡ topped_by kind wish input }
 {
     match wish {
-        Wish::Nothing => kind,
-        Wish::Wrong => kind,
+        Wish::Nothing | Wish::Wrong => kind,
         Wish::Number(number) => raise(kind, number, input),
     }
 }
 
 // The first fault stays.
-fn fault_at(fault: Fault, height: Wish, time: Wish, input: u64) -> Fault
+fn fault_at(fault: Option<u64>, height: Wish, time: Wish, input: u64) -> Option<u64>
     ensures { result ≡ fault_by fault height time input }
 {
-    match fault {
-        Fault::Input(i) => Fault::Input(i),
-        Fault::Nowhere => {
-            if is_wrong(height) {
-                Fault::Input(input)
-            } else if is_wrong(time) {
-                Fault::Input(input)
-            } else {
-                Fault::Nowhere
-            }
-        }
+    if fault.is_none() && (is_wrong(height) || is_wrong(time)) {
+        Some(input)
+    } else {
+        fault
     }
 }
 
@@ -141,13 +102,10 @@ fn fault_at(fault: Fault, height: Wish, time: Wish, input: u64) -> Fault
 fn see(asks: Asks, input: u64, height: Wish, time: Wish) -> Asks
     ensures { result ≡ seen asks input height time }
 {
-    let fault = asks.fault;
-    let heights = asks.height;
-    let times = asks.time;
     Asks {
-        fault: fault_at(fault, height, time, input),
-        height: ask_more(heights, height, input),
-        time: ask_more(times, time, input),
+        fault: fault_at(asks.fault, height, time, input),
+        height: ask_more(asks.height, height, input),
+        time: ask_more(asks.time, time, input),
     }
 }
 
@@ -155,9 +113,12 @@ fn see(asks: Asks, input: u64, height: Wish, time: Wish) -> Asks
 pub fn see_at(file: &[u8], asks: Asks, input: u64, at: InputAt) -> Asks
     ensures { result ≡ seen_in asks input (input_in file.now at) }
 {
-    let height = at.height;
-    let time = at.time;
-    see(asks, input, wish_at(file, height), wish_at(file, time))
+    see(
+        asks,
+        input,
+        wish_at(file, at.height),
+        wish_at(file, at.time),
+    )
 }
 
 // The same, with input number `i`.
@@ -174,9 +135,9 @@ pub fn no_asks() -> Asks
     ensures { result ≡ no_asks }
 {
     Asks {
-        fault: Fault::Nowhere,
-        height: Kind::Unasked,
-        time: Kind::Unasked,
+        fault: None,
+        height: None,
+        time: None,
     }
 }
 
@@ -186,17 +147,15 @@ fn all_asks(file: &[u8], pairs: &[u32], maps: &[u32], psbt: Psbt) -> Asks
     ensures { result ≡ walk no_asks 0 (ins_of file.now pairs.now maps.now psbt) }
 {
     let mut asks = no_asks();
-    let mut i: u64 = 0;
-    while i < psbt.inputs {
+    for i in 0..psbt.inputs {
         asks = see_input(file, pairs, maps, i, asks);
-        i = i + 1;
     }
     asks
 }
 
 // A greatest height must be a height.
 fn height_lock(number: u32, input: u64) -> Lock
-    ensures { result ≡ height_by number input }
+    ensures { Ok result ≡ height_by number input }
 {
     if number < THRESHOLD {
         Lock::Height { number, input }
@@ -207,7 +166,7 @@ fn height_lock(number: u32, input: u64) -> Lock
 
 // A greatest time must be a time.
 fn time_lock(number: u32, input: u64) -> Lock
-    ensures { result ≡ time_by number input }
+    ensures { Ok result ≡ time_by number input }
 {
     if THRESHOLD <= number {
         Lock::Time { number, input }
@@ -217,71 +176,50 @@ fn time_lock(number: u32, input: u64) -> Lock
 }
 
 // Not both kinds; the greatest; the fallback only where nothing is asked for.
-fn decide_kinds(fallback: u32, height: Kind, time: Kind) -> Lock
-    ensures { result ≡ decide_kinds fallback height time }
+fn decide_kinds(fallback: u32, height: Option<Most>, time: Option<Most>) -> Lock
+    ensures { Ok result ≡ decide_kinds fallback height time }
 {
-    match height {
-        Kind::Unasked => match time {
-            Kind::Unasked => Lock::Fallback { number: fallback },
-            Kind::Asked(t) => time_lock(t.number, t.input),
-        },
-        Kind::Asked(h) => match time {
-            Kind::Unasked => height_lock(h.number, h.input),
-            Kind::Asked(t) => Lock::BothKinds {
-                height_input: h.first,
-                time_input: t.first,
-            },
+    match (height, time) {
+        (None, None) => Lock::Fallback { number: fallback },
+        (None, Some(t)) => time_lock(t.number, t.input),
+        (Some(h), None) => height_lock(h.number, h.input),
+        (Some(h), Some(t)) => Lock::BothKinds {
+            height_input: h.first,
+            time_input: t.first,
         },
     }
 }
 
 // The lock rule, over what the inputs ask for.
-pub fn decide(fallback: Maybe, asks: Asks) -> Lock
-    ensures { result ≡ decide_asks fallback asks }
+pub fn decide(fallback: Option<u32>, asks: Asks) -> Lock
+    ensures { Ok result ≡ decide_asks fallback asks }
 {
-    let fault = asks.fault;
-    let height = asks.height;
-    let time = asks.time;
-    match fault {
-        Fault::Nowhere => decide_kinds(fallback.or_zero(), height, time),
-        Fault::Input(input) => Lock::Malformed { input },
+    match asks.fault {
+        None => decide_kinds(fallback.unwrap_or(0), asks.height, asks.time),
+        Some(input) => Lock::Malformed { input },
     }
 }
 
 // What decides the lock: a map that is unfit refuses first.
-pub fn lock_decided(file: &[u8], pairs: &[u32], maps: &[u32], psbt: Psbt) -> Lock
+pub fn lock_decided(file: &[u8], pairs: &[u32], maps: &[u32], psbt: Psbt) -> Result<Lock, PsbtError>
     ensures { told_lock result ≡ told_lock (lock_decided (view file.now pairs.now maps.now psbt) psbt) }
 {
-    match all_maps_fit::all_fit(file, pairs, maps, psbt) {
-        Ruled::Refused(e) => Lock::Refused(e),
-        Ruled::Passed => {
-            let fallback = psbt.fallback_locktime;
-            decide(fallback, all_asks(file, pairs, maps, psbt))
-        }
-    }
+    all_maps_fit::all_fit(file, pairs, maps, psbt)?;
+    let asks = all_asks(file, pairs, maps, psbt);
+    Ok(decide(psbt.fallback_locktime, asks))
 }
 
-// The lock time that was decided.
-pub fn lock_of(lock: Lock) -> LockTime
-    ensures { locked_by result ≡ lock_of lock }
+// The lock time that was decided. What a rule forbids is refused.
+pub fn lock_of(lock: Lock) -> Result<u32, PsbtError>
+    ensures { locked_by result ≡ lock_of (Ok lock) }
 {
     match lock {
-        Lock::Refused(e) => LockTime::Refused(e),
-        Lock::Height { number, input: _ } => LockTime::Is(number),
-        Lock::Time { number, input: _ } => LockTime::Is(number),
-        Lock::Fallback { number } => LockTime::Is(number),
-        Lock::BothKinds {
-            height_input: _,
-            time_input: _,
-        } => LockTime::Refused(PsbtError::BadValue),
-        Lock::HeightTooGreat {
-            number: _,
-            input: _,
-        } => LockTime::Refused(PsbtError::BadValue),
-        Lock::TimeTooSmall {
-            number: _,
-            input: _,
-        } => LockTime::Refused(PsbtError::BadValue),
-        Lock::Malformed { input: _ } => LockTime::Refused(PsbtError::BadValue),
+        Lock::Height { number, .. } | Lock::Time { number, .. } | Lock::Fallback { number } => {
+            Ok(number)
+        }
+        Lock::BothKinds { .. }
+        | Lock::HeightTooGreat { .. }
+        | Lock::TimeTooSmall { .. }
+        | Lock::Malformed { .. } => Err(PsbtError::BadValue),
     }
 }

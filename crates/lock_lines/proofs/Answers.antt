@@ -7,12 +7,9 @@ use Rattle.format.specs.Locks.{threshold}
 use Rattle.format.specs.Refusals.{number_of}
 use Rattle.format.specs.declared.PsbtError.{PsbtError}
 use Rattle.format.specs.declared.PsbtError.TheVariants.{BadValue}
-use Rattle.format.specs.declared.Maybe.{Maybe}
-use Rattle.format.specs.declared.Numbered.{Numbered}
-use Rattle.format.specs.declared.State.{State}
-use Rattle.format.specs.declared.Lock.{Lock}
-use Rattle.format.specs.declared.UnsignedTx.{UnsignedTx}
-use Rattle.format.specs.declared.UnsignedTx.TheVariants as X
+use Rattle.format.specs.Answers.{Decided, Maybe, Numbered, UnsignedTx}
+use Rattle.std.specs.Prelude.{Ok, Err}
+use Rattle.format.specs.declared.Written.{Written}
 use Rattle.text.specs.Spots.{Spot, lay}
 use Rattle.text.specs.Say.{newline}
 use Rattle.text.specs.Spelled.{decimal}
@@ -31,8 +28,8 @@ height_by_lem s t x y b e h q = by_case height_text s t x y b e q h
 pub time_by_lem : (s t : Spot) (x y : Numbered) (b : List ℕ) → x ≡ y → t ≡ lay s b → b ≡ time_text y → t ≡ lay s (time_text x)
 time_by_lem s t x y b e h q = by_case time_text s t x y b e q h
 
-pub verdict_by : (s t : Spot) (x y : Lock) (a : UnsignedTx) (b : List ℕ) → x ≡ y → t ≡ lay s b → b ≡ verdict y a → t ≡ lay s (verdict x a)
-verdict_by s t x y a b e h q = by_case (λ (l : Lock). verdict l a) s t x y b e q h
+pub verdict_by : (s t : Spot) (x y : Decided) (a : UnsignedTx) (b : List ℕ) → x ≡ y → t ≡ lay s b → b ≡ verdict y a → t ≡ lay s (verdict x a)
+verdict_by s t x y a b e h q = by_case (λ (l : Decided). verdict l a) s t x y b e q h
 
 -- a lock number: none, a height, a time
 module _ (s t : Spot) (n : ℕ) where
@@ -63,16 +60,16 @@ module _ (s t : Spot) (e : PsbtError) (n m : ℕ) (q : n ≡ number_of e) (r : m
 pub ruleset lacks = (lack_field, lack_other)
 
 -- the transaction's line
-pub tx_refused : (s t₁ t₂ t₃ t₄ t₅ : Spot) (x : UnsignedTx) (e : PsbtError) (n : ℕ) → x ≡ X.Refused e → n ≡ number_of e → t₁ ≡ lay s say_no_tx
+pub tx_refused : (s t₁ t₂ t₃ t₄ t₅ : Spot) (x : UnsignedTx) (e : PsbtError) (n : ℕ) → x ≡ Err e → n ≡ number_of e → t₁ ≡ lay s say_no_tx
     → t₂ ≡ lay t₁ (decimal n) → t₃ ≡ lay t₂ say_that → t₄ ≡ lay t₃ (lack_text e) → t₅ ≡ lay t₄ newline
     → t₅ ≡ lay s (tx_line x)
 unfolding tx_line
 tx_refused s t₁ t₂ t₃ t₄ t₅ x e n w q a b c d f =
     chain5 s t₁ t₂ t₃ t₄ t₅ _ _ _ _ _ _ a (b ∙ ap (λ (m : ℕ). lay t₁ (decimal m)) q) c d f refl ∙ ap (λ (y : UnsignedTx). lay s (tx_line y)) (sym w)
 
-pub tx_written : (s t₁ t₂ t₃ : Spot) (x : UnsignedTx) (n : ℕ) (z : State) → x ≡ X.Written n z → t₁ ≡ lay s say_tx → t₂ ≡ lay t₁ (decimal n)
+pub tx_written : (s t₁ t₂ t₃ : Spot) (x : UnsignedTx) (w : Written) → x ≡ Ok w → t₁ ≡ lay s say_tx → t₂ ≡ lay t₁ (decimal w.len)
     → t₃ ≡ lay t₂ say_bytes → t₃ ≡ lay s (tx_line x)
 unfolding tx_line
-tx_written s t₁ t₂ t₃ x n z w a b c = chain3 s t₁ t₂ t₃ _ _ _ _ a b c refl ∙ ap (λ (y : UnsignedTx). lay s (tx_line y)) (sym w)
+tx_written s t₁ t₂ t₃ x w e a b c = chain3 s t₁ t₂ t₃ _ _ _ _ a b c refl ∙ ap (λ (y : UnsignedTx). lay s (tx_line y)) (sym e)
 
 pub ruleset txs = (tx_refused, tx_written)

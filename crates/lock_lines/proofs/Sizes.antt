@@ -8,14 +8,9 @@ use Rattle.format.specs.Refusals.{number_of}
 use Rattle.format.specs.Locks.{threshold}
 use Rattle.format.specs.declared.PsbtError.{PsbtError}
 use Rattle.format.specs.declared.PsbtError.TheVariants.{BadValue}
-use Rattle.format.specs.declared.Maybe.{Maybe}
-use Rattle.format.specs.declared.Maybe.TheVariants.{Absent, Present}
-use Rattle.format.specs.declared.Numbered.{Numbered}
-use Rattle.format.specs.declared.Numbered.TheVariants as N
-use Rattle.format.specs.declared.Lock.{Lock}
+use Rattle.format.specs.Answers.{Decided, Maybe, Numbered, UnsignedTx}
+use Rattle.std.specs.Prelude.{Ok, Err, Some, None}
 use Rattle.format.specs.declared.Lock.TheVariants as L
-use Rattle.format.specs.declared.UnsignedTx.{UnsignedTx}
-use Rattle.format.specs.declared.UnsignedTx.TheVariants as X
 use Rattle.format.proofs.Tests.{pick_by}
 use Rattle.text.proofs.Sizes.{decimal_most, decimal_few}
 use Rattle.utc.proofs.Sizes.{date_most}
@@ -42,8 +37,8 @@ lock_text_lem n =
 -- the first line
 fallback_text_lem : (m : Maybe) → length (fallback_text m) ≤ 67
 unfolding fallback_text
-fallback_text_lem Absent = omega arith
-fallback_text_lem (Present n) = lock_text_lem n
+fallback_text_lem None = omega arith
+fallback_text_lem (Some n) = lock_text_lem n
 
 pub head_most : (n : ℕ) (m : Maybe) → length (head_line n m) ≤ 106
 unfolding head_line
@@ -52,15 +47,15 @@ head_most n m = simp length-append (omega (arith, decimal_most n, fallback_text_
 -- an input's line
 height_text_lem : (h : Numbered) → length (height_text h) ≤ 27
 unfolding height_text
-height_text_lem (N.Refused e) = omega arith
-height_text_lem N.Absent = omega arith
-height_text_lem (N.Is n) = height_number_lem n
+height_text_lem (Err e) = omega arith
+height_text_lem (Ok None) = omega arith
+height_text_lem (Ok (Some n)) = height_number_lem n
 
 time_text_lem : (t : Numbered) → length (time_text t) ≤ 67
 unfolding time_text
-time_text_lem (N.Refused e) = omega arith
-time_text_lem N.Absent = omega arith
-time_text_lem (N.Is n) = time_number_lem n
+time_text_lem (Err e) = omega arith
+time_text_lem (Ok None) = omega arith
+time_text_lem (Ok (Some n)) = time_number_lem n
 
 pub input_most : (i : ℕ) (h t : Numbered) → i < 1000 → length (input_line i h t) ≤ 115
 unfolding input_line
@@ -73,22 +68,22 @@ lack_text_lem e = pick_by (λ (l : List ℕ). length l ≤ 56) (eqb (number_of e
 
 tx_line_lem : (x : UnsignedTx) → length (tx_line x) ≤ 103
 unfolding tx_line
-tx_line_lem (X.Refused e) = simp length-append (omega (arith, decimal_most (number_of e), lack_text_lem e))
-tx_line_lem (X.Written n t) = simp length-append (omega (arith, decimal_most n))
+tx_line_lem (Err e) = simp length-append (omega (arith, decimal_most (number_of e), lack_text_lem e))
+tx_line_lem (Ok w) = simp length-append (omega (arith, decimal_most w.len))
 
 outcome_most : (n : ℕ) (x : UnsignedTx) → length (outcome n x) ≤ 176
 unfolding outcome
 outcome_most n x = simp length-append (omega (arith, lock_text_lem n, tx_line_lem x))
 
-pub verdict_most : (l : Lock) (x : UnsignedTx) → length (verdict l x) ≤ 238
+pub verdict_most : (l : Decided) (x : UnsignedTx) → length (verdict l x) ≤ 238
 unfolding verdict fallback_decided height_decided time_decided both_line too_great_line too_small_line malformed_line
-verdict_most (L.Refused e) x = omega (arith, refused_most e)
-verdict_most (L.Height n i) x = simp length-append (omega (arith, decimal_most i, outcome_most n x))
-verdict_most (L.Time n i) x = simp length-append (omega (arith, decimal_most i, outcome_most n x))
-verdict_most (L.Fallback n) x = omega (arith, outcome_most n x)
-verdict_most (L.BothKinds h t) x = simp length-append (omega (arith, decimal_most h, decimal_most t, decimal_most (number_of BadValue)))
-verdict_most (L.HeightTooGreat n i) x =
+verdict_most (Err e) x = omega (arith, refused_most e)
+verdict_most (Ok (L.Height n i)) x = simp length-append (omega (arith, decimal_most i, outcome_most n x))
+verdict_most (Ok (L.Time n i)) x = simp length-append (omega (arith, decimal_most i, outcome_most n x))
+verdict_most (Ok (L.Fallback n)) x = omega (arith, outcome_most n x)
+verdict_most (Ok (L.BothKinds h t)) x = simp length-append (omega (arith, decimal_most h, decimal_most t, decimal_most (number_of BadValue)))
+verdict_most (Ok (L.HeightTooGreat n i)) x =
     simp length-append (omega (arith, decimal_most n, decimal_most i, decimal_most threshold, decimal_most (number_of BadValue)))
-verdict_most (L.TimeTooSmall n i) x =
+verdict_most (Ok (L.TimeTooSmall n i)) x =
     simp length-append (omega (arith, decimal_most n, decimal_most i, decimal_most threshold, decimal_most (number_of BadValue)))
-verdict_most (L.Malformed i) x = simp length-append (omega (arith, decimal_most i, decimal_most (number_of BadValue)))
+verdict_most (Ok (L.Malformed i)) x = simp length-append (omega (arith, decimal_most i, decimal_most (number_of BadValue)))

@@ -1,18 +1,12 @@
 -- Lines about the lock, in ASCII. A line ends with a newline.
-use Rattle.std.specs.Prelude.{ℕ, List, ◌++◌, ltb, eqb}
+use Rattle.std.specs.Prelude.{ℕ, List, ◌++◌, ltb, eqb, Ok, Err, Some, None}
 use Rattle.format.specs.Tests.{pick}
 use Rattle.format.specs.Refusals.{number_of}
 use Rattle.format.specs.Locks.{threshold}
 use Rattle.format.specs.declared.PsbtError.{PsbtError}
 use Rattle.format.specs.declared.PsbtError.TheVariants.{BadValue}
-use Rattle.format.specs.declared.Maybe.{Maybe}
-use Rattle.format.specs.declared.Maybe.TheVariants.{Absent, Present}
-use Rattle.format.specs.declared.Numbered.{Numbered}
-use Rattle.format.specs.declared.Numbered.TheVariants as N
-use Rattle.format.specs.declared.Lock.{Lock}
+use Rattle.format.specs.Answers.{Decided, Maybe, Numbered, UnsignedTx}
 use Rattle.format.specs.declared.Lock.TheVariants as L
-use Rattle.format.specs.declared.UnsignedTx.{UnsignedTx}
-use Rattle.format.specs.declared.UnsignedTx.TheVariants as X
 use Rattle.text.specs.Say.{say, newline}
 use Rattle.text.specs.Spelled.{decimal}
 use Rattle.utc.specs.Dates.{date_text}
@@ -36,8 +30,8 @@ lock_text n = pick (eqb n 0) say_none (pick (ltb n threshold) (height_number n) 
 
 -- the fallback
 unfoldable pub fallback_text : Maybe → List ℕ
-fallback_text Absent = say "none"
-fallback_text (Present n) = lock_text n
+fallback_text None = say "none"
+fallback_text (Some n) = lock_text n
 
 -- the first line: how many inputs, and the fallback
 unfoldable pub head_line : ℕ → Maybe → List ℕ
@@ -45,15 +39,15 @@ head_line n m = say "inputs " ++ (decimal n ++ (say ", fallback " ++ (fallback_t
 
 -- the height that an input asks for
 unfoldable pub height_text : Numbered → List ℕ
-height_text (N.Refused e) = say "an unreadable height"
-height_text N.Absent = say "no height"
-height_text (N.Is n) = height_number n
+height_text (Err e) = say "an unreadable height"
+height_text (Ok None) = say "no height"
+height_text (Ok (Some n)) = height_number n
 
 -- the time that an input asks for
 unfoldable pub time_text : Numbered → List ℕ
-time_text (N.Refused e) = say "an unreadable time"
-time_text N.Absent = say "no time"
-time_text (N.Is n) = time_number n
+time_text (Err e) = say "an unreadable time"
+time_text (Ok None) = say "no time"
+time_text (Ok (Some n)) = time_number n
 
 -- an input, by its number
 abbrev pub input_name : ℕ → List ℕ
@@ -85,8 +79,8 @@ say_bytes = say " bytes\n"
 
 -- whether a transaction is given
 unfoldable pub tx_line : UnsignedTx → List ℕ
-tx_line (X.Refused e) = say_no_tx ++ (decimal (number_of e) ++ (say_that ++ (lack_text e ++ newline)))
-tx_line (X.Written n t) = say_tx ++ (decimal n ++ say_bytes)
+tx_line (Err e) = say_no_tx ++ (decimal (number_of e) ++ (say_that ++ (lack_text e ++ newline)))
+tx_line (Ok w) = say_tx ++ (decimal w.len ++ say_bytes)
 
 -- the lock time that was decided, and whether a transaction is given
 unfoldable pub outcome : ℕ → UnsignedTx → List ℕ
@@ -133,12 +127,12 @@ unfoldable pub malformed_line : ℕ → List ℕ
 malformed_line i = input_name i ++ (say " asks a height or a time of a wrong length" ++ refused_end)
 
 -- the verdict, by what decided the lock; with a lock, the transaction's answer too
-unfoldable pub verdict : Lock → UnsignedTx → List ℕ
-verdict (L.Refused e) x = refused_line e
-verdict (L.Height n i) x = height_decided n i x
-verdict (L.Time n i) x = time_decided n i x
-verdict (L.Fallback n) x = fallback_decided n x
-verdict (L.BothKinds h t) x = both_line h t
-verdict (L.HeightTooGreat n i) x = too_great_line n i
-verdict (L.TimeTooSmall n i) x = too_small_line n i
-verdict (L.Malformed i) x = malformed_line i
+unfoldable pub verdict : Decided → UnsignedTx → List ℕ
+verdict (Err e) x = refused_line e
+verdict (Ok (L.Height n i)) x = height_decided n i x
+verdict (Ok (L.Time n i)) x = time_decided n i x
+verdict (Ok (L.Fallback n)) x = fallback_decided n x
+verdict (Ok (L.BothKinds h t)) x = both_line h t
+verdict (Ok (L.HeightTooGreat n i)) x = too_great_line n i
+verdict (Ok (L.TimeTooSmall n i)) x = too_small_line n i
+verdict (Ok (L.Malformed i)) x = malformed_line i

@@ -7,7 +7,7 @@ ghost use Rattle.lock_lines.specs.Lines.{height_number, time_number, lock_text, 
 ghost use Rattle.lock_lines.specs.Lines.{input_line, lack_text, tx_line, outcome, fallback_decided, decided, height_decided, time_decided};
 ghost use Rattle.lock_lines.specs.Lines.{refused_end, both_line, misread, too_great_line, too_small_line, malformed_line, verdict};
 
-use format::{Lock, Maybe, Numbered, PsbtError, THRESHOLD, UnsignedTx};
+use format::{Lock, PsbtError, THRESHOLD, Written};
 use reasons::{put_meaning, put_refused};
 use text::{put, put_decimal};
 use utc::put_date;
@@ -45,17 +45,17 @@ fn put_lock_text(out: &mut [u8], at: usize, n: u32) -> usize
 }
 
 // The fallback, or `none`.
-fn put_fallback(out: &mut [u8], at: usize, m: Maybe) -> usize
+fn put_fallback(out: &mut [u8], at: usize, m: Option<u32>) -> usize
     ensures { spot result out.new ≡ lay (spot at out.old) (fallback_text m) }
 {
     match m {
-        Maybe::Absent => put(out, at, b"none"),
-        Maybe::Present(n) => put_lock_text(out, at, n),
+        None => put(out, at, b"none"),
+        Some(n) => put_lock_text(out, at, n),
     }
 }
 
 // `inputs N, fallback ..`
-pub fn put_head(out: &mut [u8], at: usize, inputs: u64, fallback: Maybe) -> usize
+pub fn put_head(out: &mut [u8], at: usize, inputs: u64, fallback: Option<u32>) -> usize
     ensures { spot result out.new ≡ lay (spot at out.old) (head_line inputs fallback) }
 {
     let to = put(out, at, b"inputs ");
@@ -66,24 +66,24 @@ pub fn put_head(out: &mut [u8], at: usize, inputs: u64, fallback: Maybe) -> usiz
 }
 
 // A height that an input asks for, or `no height`.
-fn put_height(out: &mut [u8], at: usize, h: Numbered) -> usize
+fn put_height(out: &mut [u8], at: usize, h: Result<Option<u64>, PsbtError>) -> usize
     ensures { spot result out.new ≡ lay (spot at out.old) (height_text h) }
 {
     match h {
-        Numbered::Refused(_) => put(out, at, b"an unreadable height"),
-        Numbered::Absent => put(out, at, b"no height"),
-        Numbered::Is(n) => put_height_number(out, at, n),
+        Err(_) => put(out, at, b"an unreadable height"),
+        Ok(None) => put(out, at, b"no height"),
+        Ok(Some(n)) => put_height_number(out, at, n),
     }
 }
 
 // A time that an input asks for, or `no time`.
-fn put_time(out: &mut [u8], at: usize, t: Numbered) -> usize
+fn put_time(out: &mut [u8], at: usize, t: Result<Option<u64>, PsbtError>) -> usize
     ensures { spot result out.new ≡ lay (spot at out.old) (time_text t) }
 {
     match t {
-        Numbered::Refused(_) => put(out, at, b"an unreadable time"),
-        Numbered::Absent => put(out, at, b"no time"),
-        Numbered::Is(n) => put_time_number(out, at, n),
+        Err(_) => put(out, at, b"an unreadable time"),
+        Ok(None) => put(out, at, b"no time"),
+        Ok(Some(n)) => put_time_number(out, at, n),
     }
 }
 
@@ -96,7 +96,13 @@ fn put_input_name(out: &mut [u8], at: usize, i: u64) -> usize
 }
 
 // What input number `i` asks for.
-pub fn put_input(out: &mut [u8], at: usize, i: u64, h: Numbered, t: Numbered) -> usize
+pub fn put_input(
+    out: &mut [u8],
+    at: usize,
+    i: u64,
+    h: Result<Option<u64>, PsbtError>,
+    t: Result<Option<u64>, PsbtError>,
+) -> usize
     ensures { spot result out.new ≡ lay (spot at out.old) (input_line i h t) }
 {
     let to = put_input_name(out, at, i);
@@ -122,27 +128,27 @@ fn put_lack(out: &mut [u8], at: usize, e: PsbtError) -> usize
 }
 
 // Whether a transaction is given.
-fn put_tx(out: &mut [u8], at: usize, x: UnsignedTx) -> usize
+fn put_tx(out: &mut [u8], at: usize, x: Result<Written, PsbtError>) -> usize
     ensures { spot result out.new ≡ lay (spot at out.old) (tx_line x) }
 {
     match x {
-        UnsignedTx::Refused(e) => {
+        Err(e) => {
             let to = put(out, at, b"no transaction, refused ");
             let to = put_decimal(out, to, e.number() as u64);
             let to = put(out, to, b": ");
             let to = put_lack(out, to, e);
             put(out, to, b"\n")
         }
-        UnsignedTx::Written { len, .. } => {
+        Ok(tx) => {
             let to = put(out, at, b"transaction of ");
-            let to = put_decimal(out, to, len as u64);
+            let to = put_decimal(out, to, tx.len as u64);
             put(out, to, b" bytes\n")
         }
     }
 }
 
 // The lock time, and whether a transaction is given.
-fn put_outcome(out: &mut [u8], at: usize, n: u32, x: UnsignedTx) -> usize
+fn put_outcome(out: &mut [u8], at: usize, n: u32, x: Result<Written, PsbtError>) -> usize
     ensures { spot result out.new ≡ lay (spot at out.old) (outcome n x) }
 {
     let to = put(out, at, b"lock ");
@@ -152,7 +158,7 @@ fn put_outcome(out: &mut [u8], at: usize, n: u32, x: UnsignedTx) -> usize
 }
 
 // Nothing was asked for.
-fn put_fallback_decided(out: &mut [u8], at: usize, n: u32, x: UnsignedTx) -> usize
+fn put_fallback_decided(out: &mut [u8], at: usize, n: u32, x: Result<Written, PsbtError>) -> usize
     ensures { spot result out.new ≡ lay (spot at out.old) (fallback_decided n x) }
 {
     let to = put(out, at, b"no input asks for a lock: the fallback decides\n");
@@ -160,7 +166,14 @@ fn put_fallback_decided(out: &mut [u8], at: usize, n: u32, x: UnsignedTx) -> usi
 }
 
 // What decided, the greatest asked for by input `i`.
-fn put_decided(out: &mut [u8], at: usize, says: &[u8], n: u32, i: u64, x: UnsignedTx) -> usize
+fn put_decided(
+    out: &mut [u8],
+    at: usize,
+    says: &[u8],
+    n: u32,
+    i: u64,
+    x: Result<Written, PsbtError>,
+) -> usize
     ensures { spot result out.new ≡ lay (spot at out.old) (decided says.now n i x) }
 {
     let to = put(out, at, says);
@@ -170,14 +183,26 @@ fn put_decided(out: &mut [u8], at: usize, says: &[u8], n: u32, i: u64, x: Unsign
 }
 
 // Heights were asked for.
-fn put_height_decided(out: &mut [u8], at: usize, n: u32, i: u64, x: UnsignedTx) -> usize
+fn put_height_decided(
+    out: &mut [u8],
+    at: usize,
+    n: u32,
+    i: u64,
+    x: Result<Written, PsbtError>,
+) -> usize
     ensures { spot result out.new ≡ lay (spot at out.old) (height_decided n i x) }
 {
     put_decided(out, at, b"the greatest height asked decides: ", n, i, x)
 }
 
 // Times were asked for.
-fn put_time_decided(out: &mut [u8], at: usize, n: u32, i: u64, x: UnsignedTx) -> usize
+fn put_time_decided(
+    out: &mut [u8],
+    at: usize,
+    n: u32,
+    i: u64,
+    x: Result<Written, PsbtError>,
+) -> usize
     ensures { spot result out.new ≡ lay (spot at out.old) (time_decided n i x) }
 {
     put_decided(out, at, b"the greatest time asked decides: ", n, i, x)
@@ -250,20 +275,27 @@ fn put_malformed(out: &mut [u8], at: usize, i: u64) -> usize
 }
 
 // The verdict on the lock, and with it the transaction's answer.
-pub fn put_verdict(out: &mut [u8], at: usize, lock: Lock, x: UnsignedTx) -> usize
+pub fn put_verdict(
+    out: &mut [u8],
+    at: usize,
+    lock: Result<Lock, PsbtError>,
+    x: Result<Written, PsbtError>,
+) -> usize
     ensures { spot result out.new ≡ lay (spot at out.old) (verdict lock x) }
 {
     match lock {
-        Lock::Refused(e) => put_refused(out, at, e),
-        Lock::Height { number, input } => put_height_decided(out, at, number, input, x),
-        Lock::Time { number, input } => put_time_decided(out, at, number, input, x),
-        Lock::Fallback { number } => put_fallback_decided(out, at, number, x),
-        Lock::BothKinds {
-            height_input,
-            time_input,
-        } => put_both(out, at, height_input, time_input),
-        Lock::HeightTooGreat { number, input } => put_too_great(out, at, number, input),
-        Lock::TimeTooSmall { number, input } => put_too_small(out, at, number, input),
-        Lock::Malformed { input } => put_malformed(out, at, input),
+        Err(e) => put_refused(out, at, e),
+        Ok(Lock::Height { number, input }) => put_height_decided(out, at, number, input, x),
+        Ok(Lock::Time { number, input }) => put_time_decided(out, at, number, input, x),
+        Ok(Lock::Fallback { number }) => put_fallback_decided(out, at, number, x),
+        Ok(
+            Lock::BothKinds {
+                height_input,
+                time_input,
+            },
+        ) => put_both(out, at, height_input, time_input),
+        Ok(Lock::HeightTooGreat { number, input }) => put_too_great(out, at, number, input),
+        Ok(Lock::TimeTooSmall { number, input }) => put_too_small(out, at, number, input),
+        Ok(Lock::Malformed { input }) => put_malformed(out, at, input),
     }
 }

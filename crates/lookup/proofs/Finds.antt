@@ -1,50 +1,49 @@
 -- Laws of finding a key in the pairs of a map, and of what is asked of the value found.
+use Rattle.std.specs.Ordering.{is_eq}
 use mathlib.Core.Path.{◌≡◌, refl, sym, ◌∙◌, ap}
 use mathlib.Core.Bool.{Bool, true, false, not, ◌&&◌}
 use mathlib.Core.List.{List, [], ◌∷◌}
-use Prim.Native.Nat.{ℕ, ◌+◌, ◌-◌, ◌%◌, ◌≤◌, ◌<◌}
+use Prim.Native.Nat.{ℕ, ◌+◌, ◌-◌, ◌%◌, ◌≤◌}
 use native.Mathlib.Numerals.{add-one}
 use native.Mathlib.Omega.{arith}
 use borrow.Author.Tests.{leb-true, ltb-false, le-ltb, eq-eqb, ne_eqb}
 use lib.Dec.{leb, ltb, eqb}
 use lib.ListN.{length, take, drop, get_or, length-take}
 use lib.Seq.{take_all}
+use Rattle.std.specs.Prelude.{cond, Option, Some, None, find, Ok, Err}
+use Rattle.std.specs.Option.{option_map}
 use Rattle.format.specs.Tests.{pick}
 use Rattle.format.specs.Numbers.{le}
-use Rattle.format.specs.Keys.{key_of, order, is_same_def, below, same}
+use Rattle.format.specs.Keys.{key_of, order, below, same}
 use Rattle.format.specs.Entries.{key_in_def}
-use Rattle.format.specs.Tables.{in_file, fit, Held}
+use Rattle.format.specs.Tables.{in_file, fit, Held, holds}
 use Rattle.format.specs.Lookups.{Length, any_length, place, length_fits, of_length_def, asked, look, part, number_at}
 use Rattle.format.specs.declared.PsbtError.{PsbtError}
 use Rattle.format.specs.declared.PsbtError.TheVariants.{BadValue}
-use Rattle.format.specs.declared.Order.{Order}
+use Rattle.std.specs.declared.cmp.Ordering.{Ordering}
+use Rattle.format.specs.declared.Part.{Part}
+use Rattle.format.specs.Answers.{part_at, Looked}
 use Rattle.format.specs.declared.PairEntry.{PairEntry}
 use Rattle.format.specs.declared.MapEntry.{MapEntry}
-use Rattle.format.specs.declared.Looked.{Looked}
-use Rattle.format.specs.declared.Looked.TheVariants.{Refused, Absent, At}
-use Rattle.format.specs.declared.Numbered.TheVariants as N
 use Rattle.format.proofs.Tests.{pick_by, and_left, and_right, no_by}
 use Rattle.format.proofs.Keys.{same_is}
 use Rattle.format.proofs.Told.{looked_one}
 use Rattle.format.specs.Told.{told_looked}
 use Rattle.wire.specs.Leads.{lead}
 use Rattle.wire.proofs.Sizes.{part_rest}
-use Rattle.entries.specs.Words.{pair_count, pair_at}
-use Rattle.fitness.specs.Fits.{run, entries_of, held_of, Sound}
+use Rattle.fitness.specs.Fits.{entries_of, held_of, Sound, Fit}
 use Rattle.fitness.specs.Parts.{bytes_at}
-use Rattle.fitness.specs.declared.Fit.{Fit}
-use Rattle.fitness.specs.declared.Fit.TheVariants as F
-use Rattle.fitness.proofs.Walks.{run_none, run_one, next_fits}
+use Rattle.fitness.proofs.Maps.{held_ok, held_err}
 use Rattle.lookup.specs.Finds.{length_of, Short, Lies}
 use Rattle.lookup.specs.declared.Wanted.{Wanted}
 use Rattle.lookup.specs.declared.Wanted.TheVariants as W
 
 -- a key, by its type and its data
 other_type : (t x : ℕ) (d k : List ℕ) → (x ≡ t → ⊥) → same (key_of t d) (x ∷ k) ≡ false
-unfolding same key_of order is_same_def
+unfolding same key_of order
 other_type t x d k h =
-    pick_by (λ (o : Order). is_same_def o ≡ false) (ltb t x) _ _ (λ q. refl)
-    (λ q. pick_by (λ (o : Order). is_same_def o ≡ false) (ltb x t) _ _ (λ w. refl) (λ w. absurd (h (omega (arith, ltb-false t x q, ltb-false x t w)))))
+    pick_by (λ (o : Ordering). is_eq o ≡ false) (ltb t x) _ _ (λ q. refl)
+    (λ q. pick_by (λ (o : Ordering). is_eq o ≡ false) (ltb x t) _ _ (λ w. refl) (λ w. absurd (h (omega (arith, ltb-false t x q, ltb-false x t w)))))
 
 own_type : (t x : ℕ) (d k : List ℕ) → x ≡ t → same (key_of t d) (x ∷ k) ≡ same d k
 unfolding same key_of order
@@ -62,41 +61,36 @@ module _ (t : ℕ) (d : List ℕ) where
   key_typed [] g is some h = absurd (omega arith)
   key_typed (x ∷ k) g is some h = ne_eqb x t h ∙ sym (other_type t x d k h) ∙ ap (same (key_of t d)) is
 
-  pub key_same : (k g : List ℕ) → k ≡ g → length k ≡ length d + 1 → get_or k 0 0 ≡ t → (r : Bool) (o : Order) → r ≡ is_same_def o
+  pub key_same : (k g : List ℕ) → k ≡ g → length k ≡ length d + 1 → get_or k 0 0 ≡ t → (r : Bool) (o : Ordering) → r ≡ is_eq o
       → o ≡ order d (take (length k - 1) (drop 1 k))
       → r ≡ same (key_of t d) g
   unfolding same
   key_same [] g is some h r o er eo = absurd (omega arith)
   key_same (x ∷ k) g is some h r o er eo =
-      er ∙ ap is_same_def (eo ∙ ap (order d) (part_rest 1 (x ∷ k))) ∙ sym (own_type t x d k h) ∙ ap (same (key_of t d)) is
+      er ∙ ap is_eq (eo ∙ ap (order d) (part_rest 1 (x ∷ k))) ∙ sym (own_type t x d k h) ∙ ap (same (key_of t d)) is
 
 pub ruleset keys = (key_length, key_typed, key_same)
 
--- where a key's value stands among the n pairs from number i on is where it stands
-pub record Finding (f key P : List ℕ) (first count i n : ℕ) : Type 0 where
-  pub in_table : i + n ≤ pair_count P
-  pub is : place f key (run P i n) ≡ place f key (run P first count)
+-- where a key's value stands is where that of the first entry with the key does
+abbrev pub found_entry : Option PairEntry → Option Part
+found_entry None = None
+found_entry (Some e) = Some (part_at e.value e.vlen)
 
-pub find_first : (f key P : List ℕ) (first count : ℕ) → first + count ≤ pair_count P → Finding f key P first count first count
-find_first f key P first count h = record { in_table = h; is = refl }
+first_found : (f key : List ℕ) (es : List PairEntry) → ◌≡◌ {A = Looked} (Ok (found_entry (find (λ e. same key (key_in_def f e)) es))) (place f key es)
+unfolding place
+first_found f key [] = refl
+first_found f key (e ∷ es) = by (same key (key_in_def f e)) (first_found f key es)
+  where
+    by : (b : Bool) → ◌≡◌ {A = Looked} (Ok (found_entry (find (λ x. same key (key_in_def f x)) es))) (place f key es)
+        → ◌≡◌ {A = Looked} (Ok (found_entry (cond b (Some e) (find (λ x. same key (key_in_def f x)) es))))
+        (pick b (Ok (Some (part_at e.value e.vlen))) (place f key es))
+    by true h = refl
+    by false h = h
 
-module _ (f key P : List ℕ) (first count i n : ℕ) (k : Finding f key P first count i n) where
-  pub find_none : n ≤ 0 → Absent ≡ place f key (run P first count)
-  unfolding place
-  find_none h = sym (ap (place f key) (run_none P i n h)) ∙ k.is
-
-  module _ (h : 0 < n) (e : PairEntry) (is : e ≡ pair_at P i) (r : Bool) (one : r ≡ same key (key_in_def f e)) where
-    step : place f key (run P first count) ≡ pick r (At e.value e.vlen) (place f key (run P (i + 1) (n - 1)))
-    unfolding place
-    step = sym k.is ∙ ap (place f key) (run_one P i n h k.in_table) ∙ rw (← is, ← one)
-
-    pub find_found : r ≡ true → At e.value e.vlen ≡ place f key (run P first count)
-    find_found q = sym (step ∙ rw q)
-
-    pub find_more : r ≡ false → Finding f key P first count (i + 1) (n - 1)
-    find_more q = record { in_table = omega (arith, k.in_table); is = sym (step ∙ rw q) }
-
-pub ruleset findings = (next_fits, find_first, find_none, find_found, find_more)
+pub found_is : (f key : List ℕ) (es : List PairEntry) (o : Option PairEntry) → option_map (λ e. e) o ≡ find (λ e. same key (key_in_def f e)) es
+    → ◌≡◌ {A = Looked} (Ok (found_entry o)) (place f key es)
+found_is f key es None q = ap (λ (x : Option PairEntry). Ok (found_entry x)) q ∙ first_found f key es
+found_is f key es (Some e) q = ap (λ (x : Option PairEntry). Ok (found_entry x)) q ∙ first_found f key es
 
 -- a length, by which lengths are right
 module _ (w : Wanted) (n : ℕ) where
@@ -120,78 +114,77 @@ module _ (w : Wanted) (n : ℕ) where
 pub ruleset lengths = (any_length_lem, one_length, empty_list, key_list_lem)
 
 -- a value, by what was found
-module _ (l : Length) (o : Looked) where
-  pub of_refused : (e : PsbtError) → o ≡ Refused e → Refused e ≡ of_length_def l o
-  unfolding of_length_def
-  of_refused e q = rw q
-
-  pub of_absent : o ≡ Absent → Absent ≡ of_length_def l o
+module _ (l : Length) (o : Option Part) where
+  pub of_absent : o ≡ None → ◌≡◌ {A = Looked} (Ok o) (of_length_def l (Ok o))
   unfolding of_length_def
   of_absent q = rw q
 
-  module _ (s n : ℕ) (q : o ≡ At s n) (b : Bool) (is : b ≡ length_fits l n) where
-    pub of_right : b ≡ true → At s n ≡ of_length_def l o
+  module _ (p : Part) (q : o ≡ Some p) (b : Bool) (is : b ≡ length_fits l p.len) where
+    pub of_right : b ≡ true → ◌≡◌ {A = Looked} (Ok o) (of_length_def l (Ok o))
     unfolding of_length_def
     of_right h = rw (q, sym is ∙ h)
 
-    pub of_wrong : b ≡ false → Refused BadValue ≡ of_length_def l o
+    pub of_wrong : b ≡ false → Err BadValue ≡ of_length_def l (Ok o)
     unfolding of_length_def
     of_wrong h = rw (q, sym is ∙ h)
 
-pub ruleset values = (of_refused, of_absent, of_right, of_wrong)
+pub ruleset values = (of_absent, of_right, of_wrong)
 
--- a typed lookup, by what the map is
-module _ (ok : Bool) (l : Length) (f key P : List ℕ) (fit : Fit) where
-  pub asked_refused : (e : PsbtError) → fit ≡ F.Refused e → Refused e ≡ asked ok l f key (held_of P fit)
-  unfolding asked held_of
-  asked_refused e q = rw q
+-- a typed lookup in a map
+module _ (ok : Bool) (l : Length) (f key P : List ℕ) (m : MapEntry) where
+  pub asked_bad : ok ≡ false → Err BadValue ≡ asked ok l f key (holds (entries_of P m))
+  unfolding asked
+  asked_bad h = rw h
 
-  module _ (m : MapEntry) (q : fit ≡ F.Is m) where
-    pub asked_bad : ok ≡ false → Refused BadValue ≡ asked ok l f key (held_of P fit)
-    unfolding asked held_of
-    asked_bad h = rw (q, h)
+  pub asked_place : ok ≡ true → (r : Looked) (x : Option Part) → r ≡ of_length_def l (Ok x) → Ok x ≡ place f key (entries_of P m)
+      → r ≡ asked ok l f key (holds (entries_of P m))
+  unfolding asked
+  asked_place h r x er ex = er ∙ ap (of_length_def l) ex ∙ sym (rw h)
 
-    pub asked_place : ok ≡ true → (r x : Looked) → r ≡ of_length_def l x → x ≡ place f key (entries_of P m) → r ≡ asked ok l f key (held_of P fit)
-    unfolding asked held_of
-    asked_place h r x er ex = er ∙ ap (of_length_def l) ex ∙ sym (rw (q, h))
+pub ruleset askings = (asked_bad, asked_place)
 
-pub ruleset askings = (asked_refused, asked_bad, asked_place)
+-- the lookup of any key, by what the map is
+module _ (f d P : List ℕ) (t : ℕ) (fit : Fit) (h : Held) (q : held_of P fit ≡ h) where
+  pub get_refused : (e : PsbtError) → fit ≡ Err e → told_looked (Err e) ≡ told_looked (look f t d h)
+  unfolding look asked
+  get_refused e x = ap (λ (k : Held). told_looked (look f t d k)) (held_err P fit h q e x)
 
-pub get_is : (f d P : List ℕ) (t : ℕ) (fit : Fit) (h : Held) (r : Looked) → r ≡ asked true (length_of W.AnyLength) f (key_of t d) (held_of P fit)
-    → held_of P fit ≡ h
-    → told_looked r ≡ told_looked (look f t d h)
-unfolding look length_of
-get_is f d P t fit h r e q = ap told_looked (e ∙ ap (asked true any_length f (key_of t d)) q)
+  pub get_is : (m : MapEntry) → fit ≡ Ok m → (r : Looked) → r ≡ asked true (length_of W.AnyLength) f (key_of t d) (holds (entries_of P m))
+      → told_looked r ≡ told_looked (look f t d h)
+  unfolding look length_of
+  get_is m x r e = ap told_looked (e ∙ ap (asked true any_length f (key_of t d)) (held_ok P fit h q m x))
+
+pub ruleset gets = (get_refused, get_is)
 
 -- the part that is handed back, and its number
 module _ (f : List ℕ) (o : Looked) where
-  pub part_refused : (e : PsbtError) → o ≡ Refused e → [] ≡ part f o
+  pub part_refused : (e : PsbtError) → o ≡ Err e → [] ≡ part f o
   unfolding part
   part_refused e q = rw q
 
-  pub part_absent : o ≡ Absent → [] ≡ part f o
+  pub part_absent : o ≡ Ok None → [] ≡ part f o
   unfolding part
   part_absent q = rw q
 
-  pub number_refused : (e : PsbtError) → o ≡ Refused e → N.Refused e ≡ number_at f o
+  pub number_refused : (e : PsbtError) → o ≡ Err e → Err e ≡ number_at f o
   unfolding number_at
   number_refused e q = rw q
 
-  pub number_absent : o ≡ Absent → N.Absent ≡ number_at f o
+  pub number_absent : o ≡ Ok None → Ok None ≡ number_at f o
   unfolding number_at
   number_absent q = rw q
 
-  module _ (s n : ℕ) (q : o ≡ At s n) (v : List ℕ) (is : v ≡ bytes_at f s n) where
+  module _ (p : Part) (q : o ≡ Ok (Some p)) (v : List ℕ) (is : v ≡ bytes_at f p.start p.len) where
     pub part_found : v ≡ part f o
     unfolding part bytes_at
     part_found = is ∙ sym (rw q)
 
-    pub number_found : Short o → (x : ℕ) → x ≡ lead 8 v → N.Is x ≡ number_at f o
+    pub number_found : Short o → (x : ℕ) → x ≡ lead 8 v → Ok (Some x) ≡ number_at f o
     unfolding number_at bytes_at lead
     number_found h x e =
-        let k : n ≤ 8 = h.few s n q in
-        let g : take 8 v ≡ take n (drop s f) = ap (take 8) is ∙ take_all 8 (take n (drop s f)) (rw length-take (omega arith)) in
-        ap N.Is (e ∙ ap le g) ∙ sym (rw q)
+        let k : p.len ≤ 8 = h.few p q in
+        let g : take 8 v ≡ take p.len (drop p.start f) = ap (take 8) is ∙ take_all 8 (take p.len (drop p.start f)) (rw length-take (omega arith)) in
+        ap (λ (n : ℕ). Ok (Some n)) (e ∙ ap le g) ∙ sym (rw q)
 
 pub part_is : (f v : List ℕ) (x y : Looked) → v ≡ part f x → told_looked x ≡ told_looked y → v ≡ part f y
 part_is f v x y e q = e ∙ ap (part f) (looked_one x y q)
@@ -201,26 +194,28 @@ pub ruleset answers = (part_refused, part_absent, part_found, number_refused, nu
 -- a value that is found lies in the file
 pub place_in : (f key last : List ℕ) (es : List PairEntry) → fit f last es ≡ true → Lies f (place f key es)
 unfolding fit place in_file
-place_in f key last [] h = record { inside = λ s n q. let z : ◌≡◌ {A = ℕ} 0 1 = cc in absurd (omega arith) }
+place_in f key last [] h = record { inside = λ p q. let z : ◌≡◌ {A = ℕ} 0 1 = cc in absurd (omega arith) }
 place_in f key last (e ∷ es) h =
     let a = and_left (in_file f e && below last (key_in_def f e)) (fit f (key_in_def f e) es) h in
     let v = and_left (leb (e.value + e.vlen) (length f)) (ltb 0 e.klen)
     (and_right (leb (e.key + e.klen) (length f)) _ (and_left (in_file f e) (below last (key_in_def f e)) a)) in
     pick_by (Lies f) (same key (key_in_def f e)) _ _
-    (λ q. record { inside = λ s n w. let x : e.value ≡ s = cc in let y : e.vlen ≡ n = cc in omega (arith, leb-true (e.value + e.vlen) (length f) v) })
+    (λ q. record {
+      inside = λ p w. let x : part_at e.value e.vlen ≡ p = cc in rw (← x) (leb-true (e.value + e.vlen) (length f) v);
+    })
     (λ q. place_in f key (key_in_def f e) es (and_right (in_file f e && below last (key_in_def f e)) (fit f (key_in_def f e) es) h))
 
-refused_in : (f : List ℕ) (e : PsbtError) → Lies f (Refused e)
-refused_in f e = record { inside = λ s n q. let z : ◌≡◌ {A = ℕ} 0 1 = cc in absurd (omega arith) }
+refused_in : (f : List ℕ) (e : PsbtError) → Lies f (Err e)
+refused_in f e = record { inside = λ p q. let z : ◌≡◌ {A = ℕ} 0 1 = cc in absurd (omega arith) }
 
 of_in : (f : List ℕ) (l : Length) (o : Looked) → Lies f o → Lies f (of_length_def l o)
 unfolding of_length_def
-of_in f l (Refused e) h = h
-of_in f l Absent h = h
-of_in f l (At s n) h = pick_by (Lies f) (length_fits l n) _ _ (λ q. h) (λ q. refused_in f BadValue)
+of_in f l (Err e) h = h
+of_in f l (Ok None) h = h
+of_in f l (Ok (Some p)) h = pick_by (Lies f) (length_fits l p.len) _ _ (λ q. h) (λ q. refused_in f BadValue)
 
 pub asked_in : (ok : Bool) (l : Length) (f key P : List ℕ) (fit : Fit) → Sound f P fit → Lies f (asked ok l f key (held_of P fit))
 unfolding asked held_of
-asked_in ok l f key P (F.Refused e) h = refused_in f e
-asked_in ok l f key P (F.Is m) h =
+asked_in ok l f key P (Err e) h = refused_in f e
+asked_in ok l f key P (Ok m) h =
     pick_by (Lies f) ok _ _ (λ q. of_in f l (place f key (entries_of P m)) (place_in f key [] (entries_of P m) (h.fits m refl))) (λ q. refused_in f BadValue)

@@ -1,8 +1,8 @@
 -- What is asked of a value, and what is known of one that was found.
-use Rattle.std.specs.Prelude.{ℕ, ◌+◌, ◌≤◌, ◌≡◌, List, length}
+use Rattle.std.specs.Prelude.{ℕ, ◌+◌, ◌≤◌, ◌≡◌, List, length, Ok, Some}
 use Rattle.format.specs.Lookups.{Length, any_length, exactly, key_list}
-use Rattle.format.specs.declared.Looked.{Looked}
-use Rattle.format.specs.declared.Looked.TheVariants.{At}
+use Rattle.format.specs.declared.Part.{Part}
+use Rattle.format.specs.Answers.{part_at, Looked}
 use Rattle.lookup.specs.declared.Wanted.{Wanted}
 use Rattle.lookup.specs.declared.Wanted.TheVariants as W
 
@@ -14,8 +14,8 @@ length_of W.KeyList = key_list
 
 -- a value that was found spells a number of 64 bits
 pub record Short (r : Looked) : Type 0 where
-  pub few : (s n : ℕ) → r ≡ At s n → n ≤ 8
+  pub few : (p : Part) → r ≡ Ok (Some p) → p.len ≤ 8
 
 -- a value that was found lies in the file
 pub record Lies (f : List ℕ) (r : Looked) : Type 0 where
-  pub inside : (s n : ℕ) → r ≡ At s n → s + n ≤ length f
+  pub inside : (p : Part) → r ≡ Ok (Some p) → p.start + p.len ≤ length f

@@ -10,10 +10,10 @@ ghost use Rattle.format.specs.Told.{told_listing, told_looked, told_nth};
 ghost use Rattle.entries.specs.Words.{pair_count};
 ghost use Rattle.fitness.specs.Fits.{entries_of, held_of, Within};
 ghost use Rattle.lookup.specs.Finds.{length_of, Short};
-ghost use Rattle.lookup.specs.Lists.{one_if, is_before, is_listed};
+ghost use Rattle.lookup.specs.Lists.{is_before, is_listed};
 
-use fitness::{Fit, bytes_at, fit_map, key_in, value_in};
-use format::{Listing, Looked, MapEntry, Nth, Numbered, PUBKEY_LEN, PairEntry, Psbt, PsbtError};
+use fitness::{bytes_at, fit_map, key_in, value_in};
+use format::{Listed, MapEntry, PUBKEY_LEN, PairEntry, Part, Psbt, PsbtError};
 
 // Which lengths of a value are right: any, one of so many bytes, a list of public keys that is not empty.
 #[derive(Clone, Copy)]
@@ -29,28 +29,28 @@ fn is_key(file: &[u8], e: PairEntry, key_type: u8, key_data: &[u8]) -> bool
 {
     let key = key_in(file, e);
     key.len() == key_data.len() + 1
-        && (key[0] == key_type && keys::is_same(keys::compare(key_data, &key[1..])))
+        && (key[0] == key_type && keys::compare(key_data, &key[1..]).is_eq())
 }
 
 // Where the value of the asked key stands.
-pub fn find_place(file: &[u8], pairs: &[u32], m: MapEntry, key_type: u8, key_data: &[u8]) -> Looked
+pub fn find_place(
+    file: &[u8],
+    pairs: &[u32],
+    m: MapEntry,
+    key_type: u8,
+    key_data: &[u8],
+) -> Option<Part>
     requires { m.first + m.count ≤ pair_count pairs.now }
-    ensures { result ≡ place file.now (key_of key_type key_data.now) (entries_of pairs.now m) }
+    ensures { Ok result ≡ place file.now (key_of key_type key_data.now) (entries_of pairs.now m) }
 {
-    let mut i = m.first;
-    let mut left = m.count;
-    while 0 < left {
-        let e = entries::pair_entry(pairs, i);
-        if is_key(file, e, key_type, key_data) {
-            return Looked::At {
-                start: e.value,
-                len: e.vlen,
-            };
-        }
-        i = i + 1;
-        left = left - 1;
+    let found = entries::pairs_of(pairs, m).find(|e| is_key(file, *e, key_type, key_data));
+    match found {
+        Some(e) => Some(Part {
+            start: e.value,
+            len: e.vlen,
+        }),
+        None => None,
     }
-    Looked::Absent
 }
 
 // A length is a right one.
@@ -65,45 +65,33 @@ fn length_fits(wanted: Wanted, n: usize) -> bool
 }
 
 // A value of a wrong length is refused.
-fn of_length(wanted: Wanted, looked: Looked) -> Looked
-    ensures { result ≡ of_length_def (length_of wanted) looked }
+fn of_length(wanted: Wanted, found: Option<Part>) -> Result<Option<Part>, PsbtError>
+    ensures { result ≡ of_length_def (length_of wanted) (Ok found) }
 {
-    match looked {
-        Looked::Refused(e) => Looked::Refused(e),
-        Looked::Absent => Looked::Absent,
-        Looked::At { start, len } => {
-            if length_fits(wanted, len) {
-                Looked::At { start, len }
-            } else {
-                Looked::Refused(PsbtError::BadValue)
-            }
-        }
+    match found {
+        Some(p) if !length_fits(wanted, p.len) => Err(PsbtError::BadValue),
+        _ => Ok(found),
     }
 }
 
-// A typed lookup: the map's refusal, the asked key's length, absence, the value's length.
+// A typed lookup in a map: the asked key's length, absence, the value's length.
 pub fn asked(
     file: &[u8],
     pairs: &[u32],
-    fit: Fit,
+    m: MapEntry,
     ok: bool,
     wanted: Wanted,
     key_type: u8,
     key_data: &[u8],
-) -> Looked
-    requires { Within pairs.now fit }
-    ensures { result ≡ asked ok (length_of wanted) file.now (key_of key_type key_data.now) (held_of pairs.now fit) }
+) -> Result<Option<Part>, PsbtError>
+    requires { m.first + m.count ≤ pair_count pairs.now }
+    ensures { result ≡ asked ok (length_of wanted) file.now (key_of key_type key_data.now)
+        (holds (entries_of pairs.now m)) }
 {
-    match fit {
-        Fit::Refused(e) => Looked::Refused(e),
-        Fit::Is(m) => {
-            if ok {
-                of_length(wanted, find_place(file, pairs, m, key_type, key_data))
-            } else {
-                Looked::Refused(PsbtError::BadValue)
-            }
-        }
+    if !ok {
+        return Err(PsbtError::BadValue);
     }
+    of_length(wanted, find_place(file, pairs, m, key_type, key_data))
 }
 
 // The lookup of any key: where its value stands, that there is none, or the refusal.
@@ -115,15 +103,15 @@ pub fn get(
     m: u64,
     key_type: u8,
     key_data: &[u8],
-) -> Looked
+) -> Result<Option<Part>, PsbtError>
     ensures { told_looked result ≡ told_looked (look file.now key_type key_data.now
         (held file.now pairs.now maps.now psbt m)) }
 {
-    let fit = fit_map(file, pairs, maps, psbt, m);
+    let entry = fit_map(file, pairs, maps, psbt, m)?;
     asked(
         file,
         pairs,
-        fit,
+        entry,
         true,
         Wanted::AnyLength,
         key_type,
@@ -132,13 +120,15 @@ pub fn get(
 }
 
 // The part of the file that a lookup hands back: empty for absence and refusal.
-pub fn part_of(file: &[u8], looked: Looked) -> &[u8]
+pub fn part_of(file: &[u8], looked: Result<Option<Part>, PsbtError>) -> &[u8]
     ensures { result.now ≡ part file.now looked }
 {
-    match looked {
-        Looked::Refused(_) => &file[..0],
-        Looked::Absent => &file[..0],
-        Looked::At { start, len } => bytes_at(file, start, len),
+    let Ok(found) = looked else {
+        return &file[..0];
+    };
+    match found {
+        Some(p) => bytes_at(file, p.start, p.len),
+        None => &file[..0],
     }
 }
 
@@ -160,24 +150,17 @@ pub fn get_part<'a>(
 }
 
 // The number that a value spells.
-pub fn number_at(file: &[u8], looked: Looked) -> Numbered
+pub fn number_at(
+    file: &[u8],
+    looked: Result<Option<Part>, PsbtError>,
+) -> Result<Option<u64>, PsbtError>
     requires { Short looked }
     ensures { result ≡ number_at file.now looked }
 {
-    match looked {
-        Looked::Refused(e) => Numbered::Refused(e),
-        Looked::Absent => Numbered::Absent,
-        Looked::At { start, len } => {
-            Numbered::Is(wire::u64_from_le_bytes(bytes_at(file, start, len)))
-        }
+    match looked? {
+        None => Ok(None),
+        Some(p) => Ok(Some(wire::u64_from_le_bytes(bytes_at(file, p.start, p.len)))),
     }
-}
-
-// One where a test holds.
-fn one_if(b: bool) -> usize
-    ensures { result ≡ one_if b }
-{
-    if b { 1 } else { 0 }
 }
 
 // A key's type.
@@ -192,7 +175,7 @@ fn is_before(file: &[u8], e: PairEntry, key_type: u8) -> bool
     ensures { result ≡ is_before file.now key_type e }
 {
     let bare = [key_type];
-    keys::is_below(keys::compare(key_in(file, e), &bare))
+    keys::compare(key_in(file, e), &bare).is_lt()
 }
 
 // An entry's key has a type.
@@ -203,86 +186,79 @@ fn is_listed(file: &[u8], e: PairEntry, key_type: u8) -> bool
 }
 
 // The pairs of a type in a map: where they begin in it, or would, and how many they are.
-fn list_entries(file: &[u8], pairs: &[u32], m: MapEntry, key_type: u8) -> Listing
+pub fn list_in(file: &[u8], pairs: &[u32], m: MapEntry, key_type: u8) -> Listed
     requires { m.first + m.count ≤ pair_count pairs.now }
-    ensures { result ≡ list file.now key_type (holds (entries_of pairs.now m)) }
+    ensures { Ok result ≡ list file.now key_type (holds (entries_of pairs.now m)) }
 {
-    let mut i = m.first;
-    let mut rest = m.count;
-    let mut first: usize = 0;
-    let mut count: usize = 0;
-    while 0 < rest {
-        let e = entries::pair_entry(pairs, i);
-        first = first + one_if(is_before(file, e, key_type));
-        count = count + one_if(is_listed(file, e, key_type));
-        i = i + 1;
-        rest = rest - 1;
-    }
-    Listing::Pairs { first, count }
-}
-
-// The listing of a type in a map.
-pub fn list_in(file: &[u8], pairs: &[u32], fit: Fit, key_type: u8) -> Listing
-    requires { Within pairs.now fit }
-    ensures { result ≡ list file.now key_type (held_of pairs.now fit) }
-{
-    match fit {
-        Fit::Refused(e) => Listing::Refused(e),
-        Fit::Is(m) => list_entries(file, pairs, m, key_type),
-    }
+    let first = entries::pairs_of(pairs, m)
+        .filter(|e| is_before(file, *e, key_type))
+        .count();
+    let count = entries::pairs_of(pairs, m)
+        .filter(|e| is_listed(file, *e, key_type))
+        .count();
+    Listed { first, count }
 }
 
 // The listing of a type in map number `m`.
-pub fn list(file: &[u8], pairs: &[u32], maps: &[u32], psbt: Psbt, m: u64, key_type: u8) -> Listing
+pub fn list(
+    file: &[u8],
+    pairs: &[u32],
+    maps: &[u32],
+    psbt: Psbt,
+    m: u64,
+    key_type: u8,
+) -> Result<Listed, PsbtError>
     ensures { told_listing result ≡ told_listing (list file.now key_type
         (held file.now pairs.now maps.now psbt m)) }
 {
-    let fit = fit_map(file, pairs, maps, psbt, m);
-    list_in(file, pairs, fit, key_type)
+    let entry = fit_map(file, pairs, maps, psbt, m)?;
+    Ok(list_in(file, pairs, entry, key_type))
 }
 
 // A pair by its number in its map.
-pub fn nth_in(pairs: &[u32], fit: Fit, i: usize) -> Nth
-    requires { Within pairs.now fit }
-    ensures { result ≡ nth i (held_of pairs.now fit) }
+fn nth_in(pairs: &[u32], m: MapEntry, i: usize) -> Result<PairEntry, PsbtError>
+    requires { m.first + m.count ≤ pair_count pairs.now }
+    ensures { result ≡ nth i (holds (entries_of pairs.now m)) }
 {
-    match fit {
-        Fit::Refused(e) => Nth::Refused(e),
-        Fit::Is(m) => {
-            if i < m.count {
-                Nth::Is(entries::pair_entry(pairs, m.first + i))
-            } else {
-                Nth::Refused(PsbtError::OutOfRange)
-            }
-        }
+    if i < m.count {
+        Ok(entries::pair_entry(pairs, m.first + i))
+    } else {
+        Err(PsbtError::OutOfRange)
     }
 }
 
 // Pair number `i` of map number `m`.
-pub fn nth(file: &[u8], pairs: &[u32], maps: &[u32], psbt: Psbt, m: u64, i: usize) -> Nth
+pub fn nth(
+    file: &[u8],
+    pairs: &[u32],
+    maps: &[u32],
+    psbt: Psbt,
+    m: u64,
+    i: usize,
+) -> Result<PairEntry, PsbtError>
     ensures { told_nth result ≡ told_nth (nth i (held file.now pairs.now maps.now psbt m)) }
 {
-    let fit = fit_map(file, pairs, maps, psbt, m);
-    nth_in(pairs, fit, i)
+    let entry = fit_map(file, pairs, maps, psbt, m)?;
+    nth_in(pairs, entry, i)
 }
 
 // Its key, as the part of the file itself: empty for a refusal.
-pub fn key_part(file: &[u8], pair: Nth) -> &[u8]
+pub fn key_part(file: &[u8], pair: Result<PairEntry, PsbtError>) -> &[u8]
     ensures { result.now ≡ key_part file.now pair }
 {
     match pair {
-        Nth::Refused(_) => &file[..0],
-        Nth::Is(e) => key_in(file, e),
+        Err(_) => &file[..0],
+        Ok(e) => key_in(file, e),
     }
 }
 
 // Its value, in the same way.
-pub fn value_part(file: &[u8], pair: Nth) -> &[u8]
+pub fn value_part(file: &[u8], pair: Result<PairEntry, PsbtError>) -> &[u8]
     ensures { result.now ≡ value_part file.now pair }
 {
     match pair {
-        Nth::Refused(_) => &file[..0],
-        Nth::Is(e) => value_in(file, e),
+        Err(_) => &file[..0],
+        Ok(e) => value_in(file, e),
     }
 }
 

@@ -4,10 +4,10 @@ ghost use Rattle.format.specs.Tables.{held_input};
 ghost use Rattle.format.specs.Fields.{pub_nonce, partial_sig, input_participants, participant_count, participant};
 ghost use Rattle.format.specs.Told.{told_looked, told_numbered};
 
-use crate::{key_fits, musig_lookup, nth_participant, participant_count, parts_lookup};
+use crate::{joined_lookup, key_fits, musig_lookup, nth_participant, participant_count};
 use format::{
-    Looked, Numbered, PSBT_IN_MUSIG2_PARTIAL_SIG, PSBT_IN_MUSIG2_PARTICIPANT_PUBKEYS,
-    PSBT_IN_MUSIG2_PUB_NONCE, Psbt,
+    PSBT_IN_MUSIG2_PARTIAL_SIG, PSBT_IN_MUSIG2_PARTICIPANT_PUBKEYS, PSBT_IN_MUSIG2_PUB_NONCE, Part,
+    Psbt, PsbtError,
 };
 use lookup::Wanted;
 
@@ -21,15 +21,15 @@ pub fn get_musig2_pub_nonce(
     participant: &[u8],
     aggregate: &[u8],
     leaf: &[u8],
-) -> Looked
+) -> Result<Option<Part>, PsbtError>
     ensures { told_looked result ≡ told_looked (pub_nonce file.now participant.now aggregate.now leaf.now
         (held_input file.now pairs.now maps.now psbt i)) }
 {
-    let fit = fitness::fit_input(file, pairs, maps, psbt, i);
+    let m = fitness::fit_input(file, pairs, maps, psbt, i)?;
     musig_lookup(
         file,
         pairs,
-        fit,
+        m,
         PSBT_IN_MUSIG2_PUB_NONCE,
         66,
         participant,
@@ -48,15 +48,15 @@ pub fn get_musig2_partial_sig(
     participant: &[u8],
     aggregate: &[u8],
     leaf: &[u8],
-) -> Looked
+) -> Result<Option<Part>, PsbtError>
     ensures { told_looked result ≡ told_looked (partial_sig file.now participant.now aggregate.now leaf.now
         (held_input file.now pairs.now maps.now psbt i)) }
 {
-    let fit = fitness::fit_input(file, pairs, maps, psbt, i);
+    let m = fitness::fit_input(file, pairs, maps, psbt, i)?;
     musig_lookup(
         file,
         pairs,
-        fit,
+        m,
         PSBT_IN_MUSIG2_PARTIAL_SIG,
         32,
         participant,
@@ -74,17 +74,18 @@ pub fn get_musig2_participant_pubkeys(
     i: u64,
     aggregate: &[u8],
     leaf: &[u8],
-) -> Looked
+) -> Result<Option<Part>, PsbtError>
     ensures { told_looked result ≡ told_looked (input_participants file.now aggregate.now leaf.now
         (held_input file.now pairs.now maps.now psbt i)) }
 {
-    let fit = fitness::fit_input(file, pairs, maps, psbt, i);
-    let ok = key_fits(aggregate, leaf);
-    parts_lookup(
+    let m = fitness::fit_input(file, pairs, maps, psbt, i)?;
+    if !key_fits(aggregate, leaf) {
+        return Err(PsbtError::BadValue);
+    }
+    joined_lookup(
         file,
         pairs,
-        fit,
-        ok,
+        m,
         Wanted::KeyList,
         PSBT_IN_MUSIG2_PARTICIPANT_PUBKEYS,
         &file[..0],
@@ -102,11 +103,12 @@ pub fn get_musig2_participant_count(
     i: u64,
     aggregate: &[u8],
     leaf: &[u8],
-) -> Numbered
+) -> Result<Option<u64>, PsbtError>
     ensures { told_numbered result ≡ told_numbered (participant_count (input_participants file.now aggregate.now leaf.now
         (held_input file.now pairs.now maps.now psbt i))) }
 {
-    participant_count(get_musig2_participant_pubkeys(file, pairs, maps, psbt, i, aggregate, leaf))
+    let list = get_musig2_participant_pubkeys(file, pairs, maps, psbt, i, aggregate, leaf)?;
+    Ok(participant_count(list))
 }
 
 // Participant number `n` of that list.
@@ -119,10 +121,10 @@ pub fn get_musig2_participant(
     aggregate: &[u8],
     leaf: &[u8],
     n: usize,
-) -> Looked
+) -> Result<Option<Part>, PsbtError>
     ensures { told_looked result ≡ told_looked (participant n (input_participants file.now aggregate.now leaf.now
         (held_input file.now pairs.now maps.now psbt i))) }
 {
-    let list = get_musig2_participant_pubkeys(file, pairs, maps, psbt, i, aggregate, leaf);
+    let list = get_musig2_participant_pubkeys(file, pairs, maps, psbt, i, aggregate, leaf)?;
     nth_participant(file, list, n)
 }

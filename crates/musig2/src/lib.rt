@@ -1,16 +1,17 @@
 // MuSig2: nonces, signatures and participants, by keys that are put together of parts.
 #![tactic(auto)]
 
-ghost use Rattle.std.specs.Prelude.{◌≡◌, true, ◌++◌};
+ghost use Rattle.std.specs.Prelude.{◌≡◌, true, ◌+◌, ◌≤◌, ◌++◌, length, Ok};
 ghost use Rattle.format.specs.Keys.{key_of};
+ghost use Rattle.format.specs.Tables.{holds};
 ghost use Rattle.format.specs.Lookups.{asked};
 ghost use Rattle.format.specs.Fields.{leaf_fits, musig_lookup, participant_count, participant};
-ghost use Rattle.fitness.specs.Fits.{held_of, Within};
+ghost use Rattle.entries.specs.Words.{pair_count};
+ghost use Rattle.fitness.specs.Fits.{entries_of};
 ghost use Rattle.lookup.specs.Finds.{length_of, Lies};
-ghost use Rattle.musig2.specs.Joined.{key_fits_def, musig_fits, Joined, Parts};
+ghost use Rattle.musig2.specs.Joined.{key_fits_def, musig_fits};
 
-use fitness::Fit;
-use format::{Looked, Numbered, PUBKEY_LEN, PsbtError};
+use format::{MapEntry, PUBKEY_LEN, Part, PsbtError};
 use lookup::Wanted;
 
 pub mod input;
@@ -47,70 +48,49 @@ fn musig_fits(participant: &[u8], aggregate: &[u8], leaf: &[u8]) -> bool
 fn joined_lookup(
     file: &[u8],
     pairs: &[u32],
-    fit: Fit,
+    m: MapEntry,
     wanted: Wanted,
     key_type: u8,
     a: &[u8],
     b: &[u8],
     c: &[u8],
-) -> Looked
-    requires { Joined pairs.now fit a.now b.now c.now }
+) -> Result<Option<Part>, PsbtError>
+    requires within { m.first + m.count ≤ pair_count pairs.now }
+    requires short { length a.now + length b.now + length c.now ≤ 98 }
     ensures { result ≡ asked true (length_of wanted) file.now (key_of key_type (a.now ++ (b.now ++ c.now)))
-        (held_of pairs.now fit) }
+        (holds (entries_of pairs.now m)) }
 {
     let mut key = [0u8; KEY_LEN];
     let n = a.len() + b.len();
     let e = n + c.len();
-    writer::put_bytes(&mut key, 0, a);
-    writer::put_bytes(&mut key, a.len(), b);
-    writer::put_bytes(&mut key, n, c);
-    lookup::asked(file, pairs, fit, true, wanted, key_type, &key[..e])
-}
-
-// The same where the parts' lengths are right; else the map's refusal, or 7.
-fn parts_lookup(
-    file: &[u8],
-    pairs: &[u32],
-    fit: Fit,
-    ok: bool,
-    wanted: Wanted,
-    key_type: u8,
-    a: &[u8],
-    b: &[u8],
-    c: &[u8],
-) -> Looked
-    requires { Parts pairs.now fit ok a.now b.now c.now }
-    ensures { result ≡ asked ok (length_of wanted) file.now (key_of key_type (a.now ++ (b.now ++ c.now)))
-        (held_of pairs.now fit) }
-{
-    if ok {
-        joined_lookup(file, pairs, fit, wanted, key_type, a, b, c)
-    } else {
-        lookup::asked(file, pairs, fit, false, wanted, key_type, a)
-    }
+    key[..a.len()].copy_from_slice(a);
+    key[a.len()..n].copy_from_slice(b);
+    key[n..e].copy_from_slice(c);
+    lookup::asked(file, pairs, m, true, wanted, key_type, &key[..e])
 }
 
 // A MuSig2 lookup asks participant, aggregate and perhaps leaf hash.
 fn musig_lookup(
     file: &[u8],
     pairs: &[u32],
-    fit: Fit,
+    m: MapEntry,
     key_type: u8,
     width: usize,
     participant: &[u8],
     aggregate: &[u8],
     leaf: &[u8],
-) -> Looked
-    requires { Within pairs.now fit }
+) -> Result<Option<Part>, PsbtError>
+    requires { m.first + m.count ≤ pair_count pairs.now }
     ensures { result ≡ musig_lookup key_type width file.now participant.now aggregate.now leaf.now
-        (held_of pairs.now fit) }
+        (holds (entries_of pairs.now m)) }
 {
-    let ok = musig_fits(participant, aggregate, leaf);
-    parts_lookup(
+    if !musig_fits(participant, aggregate, leaf) {
+        return Err(PsbtError::BadValue);
+    }
+    joined_lookup(
         file,
         pairs,
-        fit,
-        ok,
+        m,
         Wanted::Exactly(width),
         key_type,
         participant,
@@ -120,33 +100,23 @@ fn musig_lookup(
 }
 
 // How many participants a list has.
-fn participant_count(list: Looked) -> Numbered
-    ensures { result ≡ participant_count list }
+fn participant_count(list: Option<Part>) -> Option<u64>
+    ensures { Ok result ≡ participant_count (Ok list) }
 {
-    match list {
-        Looked::Refused(e) => Numbered::Refused(e),
-        Looked::Absent => Numbered::Absent,
-        Looked::At { start: _, len } => Numbered::Is((len / PUBKEY_LEN) as u64),
-    }
+    list.map(|p| (p.len / PUBKEY_LEN) as u64)
 }
 
 // Participant number `i` of a list.
-fn nth_participant(file: &[u8], list: Looked, i: usize) -> Looked
-    requires { Lies file.now list }
-    ensures { result ≡ participant i list }
+fn nth_participant(file: &[u8], list: Option<Part>, i: usize) -> Result<Option<Part>, PsbtError>
+    requires { Lies file.now (Ok list) }
+    ensures { result ≡ participant i (Ok list) }
 {
     match list {
-        Looked::Refused(e) => Looked::Refused(e),
-        Looked::Absent => Looked::Absent,
-        Looked::At { start, len } => {
-            if i < len / PUBKEY_LEN {
-                Looked::At {
-                    start: start + PUBKEY_LEN * i,
-                    len: PUBKEY_LEN,
-                }
-            } else {
-                Looked::Refused(PsbtError::OutOfRange)
-            }
-        }
+        None => Ok(None),
+        Some(p) if i < p.len / PUBKEY_LEN => Ok(Some(Part {
+            start: p.start + PUBKEY_LEN * i,
+            len: PUBKEY_LEN,
+        })),
+        Some(_) => Err(PsbtError::OutOfRange),
     }
 }

@@ -5,7 +5,7 @@ ghost use Rattle.format.specs.Fields.{output_participants, participant_count, pa
 ghost use Rattle.format.specs.Told.{told_looked, told_numbered};
 
 use crate::{nth_participant, participant_count};
-use format::{Looked, Numbered, PSBT_OUT_MUSIG2_PARTICIPANT_PUBKEYS, PUBKEY_LEN, Psbt};
+use format::{PSBT_OUT_MUSIG2_PARTICIPANT_PUBKEYS, PUBKEY_LEN, Part, Psbt, PsbtError};
 use lookup::Wanted;
 
 // The list of participants under an aggregate key.
@@ -16,16 +16,16 @@ pub fn get_musig2_participant_pubkeys(
     psbt: Psbt,
     i: u64,
     aggregate: &[u8],
-) -> Looked
+) -> Result<Option<Part>, PsbtError>
     ensures { told_looked result ≡ told_looked (output_participants file.now aggregate.now
         (held_output file.now pairs.now maps.now psbt i)) }
 {
-    let fit = fitness::fit_output(file, pairs, maps, psbt, i);
+    let m = fitness::fit_output(file, pairs, maps, psbt, i)?;
     let ok = aggregate.len() == PUBKEY_LEN;
     lookup::asked(
         file,
         pairs,
-        fit,
+        m,
         ok,
         Wanted::KeyList,
         PSBT_OUT_MUSIG2_PARTICIPANT_PUBKEYS,
@@ -41,11 +41,12 @@ pub fn get_musig2_participant_count(
     psbt: Psbt,
     i: u64,
     aggregate: &[u8],
-) -> Numbered
+) -> Result<Option<u64>, PsbtError>
     ensures { told_numbered result ≡ told_numbered (participant_count
         (output_participants file.now aggregate.now (held_output file.now pairs.now maps.now psbt i))) }
 {
-    participant_count(get_musig2_participant_pubkeys(file, pairs, maps, psbt, i, aggregate))
+    let list = get_musig2_participant_pubkeys(file, pairs, maps, psbt, i, aggregate)?;
+    Ok(participant_count(list))
 }
 
 // Participant number `n` of that list.
@@ -57,10 +58,10 @@ pub fn get_musig2_participant(
     i: u64,
     aggregate: &[u8],
     n: usize,
-) -> Looked
+) -> Result<Option<Part>, PsbtError>
     ensures { told_looked result ≡ told_looked (participant n
         (output_participants file.now aggregate.now (held_output file.now pairs.now maps.now psbt i))) }
 {
-    let list = get_musig2_participant_pubkeys(file, pairs, maps, psbt, i, aggregate);
+    let list = get_musig2_participant_pubkeys(file, pairs, maps, psbt, i, aggregate)?;
     nth_participant(file, list, n)
 }

@@ -14,7 +14,7 @@ use Rattle.format.specs.Keys.{key_of, same}
 use Rattle.format.specs.Content.{Found, absent, found, present, field}
 use Rattle.format.specs.Entries.{key_in_def, shown}
 use Rattle.format.specs.Tables.{holds, held_output}
-use Rattle.format.specs.Lookups.{place, part}
+use Rattle.format.specs.Lookups.{place}
 use Rattle.format.specs.Scripts.{script_entry, out_of}
 use Rattle.format.specs.Transaction.{entry_fits, scripts_fit, table_fits, set_so_far, set_script, script_of, script_place, output_script_def, script_part}
 use Rattle.format.specs.Told.{told_script}
@@ -24,21 +24,18 @@ use Rattle.format.specs.declared.PairEntry.{PairEntry}
 use Rattle.format.specs.declared.MapEntry.{MapEntry}
 use Rattle.format.specs.declared.Psbt.{Psbt}
 use Rattle.format.specs.declared.State.{State}
-use Rattle.format.specs.declared.Looked.{Looked}
-use Rattle.format.specs.declared.Looked.TheVariants as K
-use Rattle.format.specs.declared.OutputScript.{OutputScript}
-use Rattle.format.specs.declared.OutputScript.TheVariants as O
+use Rattle.format.specs.declared.Part.{Part}
+use Rattle.format.specs.Answers.{Looked, OutputScript}
+use Rattle.std.specs.Prelude.{Ok, Err, Some, None}
+use Rattle.format.specs.declared.ScriptPlace.TheVariants as O
 use Rattle.format.proofs.Tests.{pick_by, never_true, and_left}
 use Rattle.format.proofs.Told.{script_one}
-use Rattle.fitness.specs.Fits.{entries_of, held_of, fit_output}
-use Rattle.fitness.specs.declared.Fit.{Fit}
-use Rattle.fitness.specs.declared.Fit.TheVariants as X
+use Rattle.fitness.specs.Fits.{entries_of, held_of, fit_output, Fit}
+use Rattle.fitness.specs.Parts.{bytes_at}
 use Rattle.fitness.proofs.Maps.{output_held}
 use Rattle.scripts.specs.Tables.{entry_at, filled, fits_by}
 use Rattle.scripts.proofs.Tables.{fits_is}
-use Rattle.all_maps_fit.specs.Places.{found_at, field_at, found_in_def}
-use Rattle.all_maps_fit.specs.declared.FoundAt.{FoundAt}
-use Rattle.all_maps_fit.specs.declared.FoundAt.TheVariants as F
+use Rattle.all_maps_fit.specs.Places.{found_at, field_at, found_in_def, FoundAt}
 use Rattle.all_maps_fit.proofs.Fields.{found_shows}
 use Rattle.output_script.specs.Scripts.{in_file, in_table, standing}
 
@@ -54,29 +51,29 @@ filled_in T i h = by (take 35 (drop (i * 35) T)) refl h
 -- the ways through `in_file` and `in_table`
 module _ (t : State) (T : List ℕ) (i : ℕ) where
   module _ (s n : ℕ) where
-    pub file_unset : t.set ≡ false → O.InFile s n ≡ in_file t T i s n
+    pub file_unset : t.set ≡ false → Ok (Some (O.InFile s n)) ≡ in_file t T i s n
     unfolding in_file
     file_unset h = rw h
 
     module _ (h : t.set ≡ true) (e : List ℕ) (ee : e ≡ entry_at T i) (b : Bool) (eb : b ≡ fits_by true e) where
-      pub file_fit : b ≡ true → O.InFile s n ≡ in_file t T i s n
+      pub file_fit : b ≡ true → Ok (Some (O.InFile s n)) ≡ in_file t T i s n
       unfolding in_file
       file_fit w = rw (h, ← ee, ← eb, w)
 
-      pub file_unfit : b ≡ false → O.Refused BadIndex ≡ in_file t T i s n
+      pub file_unfit : b ≡ false → Err BadIndex ≡ in_file t T i s n
       unfolding in_file
       file_unfit w = rw (h, ← ee, ← eb, w)
 
-  pub table_unset : t.set ≡ false → O.Absent ≡ in_table t T i
+  pub table_unset : t.set ≡ false → Ok None ≡ in_table t T i
   unfolding in_table
   table_unset h = rw h
 
   module _ (e : List ℕ) (ee : e ≡ entry_at T i) (b : Bool) (eb : b ≡ fits_by false e) where
-    pub table_fit : t.set ≡ true → b ≡ true → O.InTable (i * 35 + 1) 34 ≡ in_table t T i
+    pub table_fit : t.set ≡ true → b ≡ true → Ok (Some (O.InTable (i * 35 + 1) 34)) ≡ in_table t T i
     unfolding in_table
     table_fit h w = rw (h, ← ee, ← eb, w)
 
-    pub table_unfit : t.set ≡ true → b ≡ false → O.Refused BadIndex ≡ in_table t T i
+    pub table_unfit : t.set ≡ true → b ≡ false → Err BadIndex ≡ in_table t T i
     unfolding in_table
     table_unfit h w = rw (h, ← ee, ← eb, w)
 
@@ -92,25 +89,11 @@ module _ (t : State) (T : List ℕ) (i : ℕ) where
 
 pub ruleset ways = (file_unset, file_fit, file_unfit, table_unset, table_fit, table_unfit, table_times, table_start)
 
--- a key is found, or it is absent
-place_never : (f key : List ℕ) (es : List PairEntry) (e : PsbtError) → place f key es ≡ K.Refused e → ⊥
-unfolding place
-place_never f key [] e = λ q. let z : ◌≡◌ {A = ℕ} 0 1 = cc in absurd (omega arith)
-place_never f key (x ∷ es) e =
-    pick_by (λ (o : Looked). o ≡ K.Refused e → ⊥) (same key (key_in_def f x)) _ _
-    (λ w q. let z : ◌≡◌ {A = ℕ} 0 1 = cc in absurd (omega arith)) (λ w q. place_never f key es e q)
-
-looked_absent : (o : Looked) → ((e : PsbtError) → o ≡ K.Refused e → ⊥) → found_at o ≡ F.Missing → o ≡ K.Absent
-unfolding found_at
-looked_absent (K.Refused e) h q = absurd (h e refl)
-looked_absent K.Absent h q = refl
-looked_absent (K.At s n) h q = let z : ◌≡◌ {A = ℕ} 0 1 = cc in absurd (omega arith)
-
-looked_at : (o : Looked) (s n : ℕ) → found_at o ≡ F.At s n → o ≡ K.At s n
-unfolding found_at
-looked_at (K.Refused e) s n q = let z : ◌≡◌ {A = ℕ} 0 1 = cc in absurd (omega arith)
-looked_at K.Absent s n q = let z : ◌≡◌ {A = ℕ} 0 1 = cc in absurd (omega arith)
-looked_at (K.At a k) s n q = let x : a ≡ s = cc in let y : k ≡ n = cc in rw (x, y)
+-- a key is found, or it is absent: neither is a refusal
+place_is : (f key : List ℕ) (es : List PairEntry) → place f key es ≡ Ok (found_at (place f key es))
+unfolding place found_at
+place_is f key [] = refl
+place_is f key (x ∷ es) = pick_by (λ (o : Looked). o ≡ Ok (found_at o)) (same key (key_in_def f x)) _ _ (λ w. refl) (λ w. place_is f key es)
 
 -- tests joined, and one after the other
 joined_same : {A : Type 0} (a b : Bool) (x y : A) → pick a (pick b x y) x ≡ pick (pick a b true) x y
@@ -131,21 +114,23 @@ module _ (f P : List ℕ) (m : MapEntry) (x : FoundAt) (ex : x ≡ field_at f P 
       (and-true _ ∙ ap (λ (y : Found). entry_fits y (take script_entry (drop (i * script_entry) T))) (sym (found_shows f P 0x04 m x ex))
       ∙ fits_is (found_in_def f x) (take script_entry (drop (i * script_entry) T)))
 
-  pub script_missing : x ≡ F.Missing → (r : OutputScript) → r ≡ in_table t T i → r ≡ output_script_def f t T i (holds (entries_of P m))
-  unfolding in_table output_script_def script_place field_at found_in_def present
+  placed : (y : FoundAt) → x ≡ y → place f (key_of 0x04 []) (entries_of P m) ≡ Ok y
+  unfolding field_at
+  placed y e = place_is f (key_of 0x04 []) (entries_of P m) ∙ ap (λ (z : FoundAt). Ok z) (sym ex ∙ e)
+
+  pub script_missing : x ≡ None → (r : OutputScript) → r ≡ in_table t T i → r ≡ output_script_def f t T i (holds (entries_of P m))
+  unfolding in_table output_script_def script_place found_in_def present
   script_missing e r q =
-      let p : place f (key_of 0x04 []) (entries_of P m) ≡ K.Absent = looked_absent _ (place_never f (key_of 0x04 []) (entries_of P m)) (sym ex ∙ e) in
       let w = table_is ∙ ap (λ (y : FoundAt). pick t.set (fits_by (present (found_in_def f y)) (entry_at T i)) true) e in
       q ∙ joined_other t.set (fits_by false (entry_at T i)) _ _ _
-      ∙ sym (ap₂ (λ (b : Bool) (o : Looked). pick b (script_place t i o) (O.Refused BadIndex)) w p)
+      ∙ sym (ap₂ (λ (b : Bool) (o : Looked). pick b (script_place t i o) (Err BadIndex)) w (placed None e))
 
-  pub script_there : (s n : ℕ) → x ≡ F.At s n → (r : OutputScript) → r ≡ in_file t T i s n → r ≡ output_script_def f t T i (holds (entries_of P m))
-  unfolding in_file output_script_def script_place field_at found_in_def present
-  script_there s n e r q =
-      let p : place f (key_of 0x04 []) (entries_of P m) ≡ K.At s n = looked_at _ s n (sym ex ∙ e) in
+  pub script_there : (p : Part) → x ≡ Some p → (r : OutputScript) → r ≡ in_file t T i p.start p.len → r ≡ output_script_def f t T i (holds (entries_of P m))
+  unfolding in_file output_script_def script_place found_in_def present
+  script_there p e r q =
       let w = table_is ∙ ap (λ (y : FoundAt). pick t.set (fits_by (present (found_in_def f y)) (entry_at T i)) true) e in
       q ∙ joined_same t.set (fits_by true (entry_at T i)) _ _
-      ∙ sym (ap₂ (λ (b : Bool) (o : Looked). pick b (script_place t i o) (O.Refused BadIndex)) w p)
+      ∙ sym (ap₂ (λ (b : Bool) (o : Looked). pick b (script_place t i o) (Err BadIndex)) w (placed (Some p) e))
 
 pub ruleset by_map = (script_missing, script_there)
 
@@ -154,11 +139,11 @@ module _ (f P M : List ℕ) (s : Psbt) (t : State) (T : List ℕ) (i : ℕ) (y :
   told_by : (r : OutputScript) → r ≡ output_script_def f t T i (held_of P y) → told_script r ≡ told_script (output_script_def f t T i (held_output f P M s i))
   told_by r q = ap told_script (q ∙ ap (output_script_def f t T i) (output_held f P M s i y ey))
 
-  pub told_refused : (e : PsbtError) → y ≡ X.Refused e → told_script (O.Refused e) ≡ told_script (output_script_def f t T i (held_output f P M s i))
+  pub told_refused : (e : PsbtError) → y ≡ Err e → told_script (Err e) ≡ told_script (output_script_def f t T i (held_output f P M s i))
   unfolding held_of output_script_def
-  told_refused e q = told_by (O.Refused e) (sym (ap (λ (z : Fit). output_script_def f t T i (held_of P z)) q))
+  told_refused e q = told_by (Err e) (sym (ap (λ (z : Fit). output_script_def f t T i (held_of P z)) q))
 
-  pub told_held : (m : MapEntry) → y ≡ X.Is m → (r : OutputScript) → r ≡ output_script_def f t T i (holds (entries_of P m))
+  pub told_held : (m : MapEntry) → y ≡ Ok m → (r : OutputScript) → r ≡ output_script_def f t T i (holds (entries_of P m))
       → told_script r ≡ told_script (output_script_def f t T i (held_output f P M s i))
   unfolding held_of
   told_held m q r e = told_by r (e ∙ sym (ap (λ (z : Fit). output_script_def f t T i (held_of P z)) q))
@@ -167,21 +152,21 @@ pub ruleset public = (told_refused, told_held)
 
 -- the part that an answer names
 module _ (f T : List ℕ) (o : OutputScript) where
-  pub part_refused : (e : PsbtError) → o ≡ O.Refused e → [] ≡ script_part f T o
+  pub part_refused : (e : PsbtError) → o ≡ Err e → [] ≡ script_part f T o
   unfolding script_part
   part_refused e q = rw q
 
-  pub part_absent : o ≡ O.Absent → [] ≡ script_part f T o
+  pub part_absent : o ≡ Ok None → [] ≡ script_part f T o
   unfolding script_part
   part_absent q = rw q
 
   module _ (s n : ℕ) (v : List ℕ) where
-    pub part_in_file : o ≡ O.InFile s n → v ≡ part f (K.At s n) → v ≡ script_part f T o
-    unfolding script_part part
+    pub part_in_file : o ≡ Ok (Some (O.InFile s n)) → v ≡ bytes_at f s n → v ≡ script_part f T o
+    unfolding script_part bytes_at
     part_in_file q e = rw q e
 
-    pub part_in_table : o ≡ O.InTable s n → v ≡ part T (K.At s n) → v ≡ script_part f T o
-    unfolding script_part part
+    pub part_in_table : o ≡ Ok (Some (O.InTable s n)) → v ≡ bytes_at T s n → v ≡ script_part f T o
+    unfolding script_part bytes_at
     part_in_table q e = rw q e
 
 pub ruleset script_parts = (part_refused, part_absent, part_in_file, part_in_table)
@@ -205,7 +190,7 @@ none_set i = sym (ap set_script (ap (take 35) (drop-nil (i * 35)) ∙ take-nil 3
 module _ (f : List ℕ) (t : State) (T : List ℕ) (i : ℕ) (y : Found) where
   -- not refused, it names the script that the output y with its entry has by now
   abbrev Names : OutputScript → Type 0
-  Names r = ((e : PsbtError) → r ≡ O.Refused e → ⊥) → standing f T r ≡ script_of y (entry_at (set_so_far t T) i)
+  Names r = ((e : PsbtError) → r ≡ Err e → ⊥) → standing f T r ≡ script_of y (entry_at (set_so_far t T) i)
 
   file_names : (s n : ℕ) → y ≡ found (take n (drop s f)) → Names (in_file t T i s n)
   unfolding in_file standing script_of
@@ -226,15 +211,15 @@ module _ (f P : List ℕ) (m : MapEntry) (t : State) (T : List ℕ) (i : ℕ) wh
   names : (x : FoundAt) → x ≡ field_at f P 0x04 m
       → Names f t T i (field 0x04 (map (shown f) (entries_of P m))) (output_script_def f t T i (holds (entries_of P m)))
   unfolding found_in_def
-  names F.Missing ex =
-      subst (Names f t T i (field 0x04 (map (shown f) (entries_of P m)))) (script_missing f P m F.Missing ex t T i refl (in_table t T i) refl)
-      (table_names f t T i _ (sym (found_shows f P 0x04 m F.Missing ex)))
-  names (F.At s n) ex =
-      subst (Names f t T i (field 0x04 (map (shown f) (entries_of P m)))) (script_there f P m (F.At s n) ex t T i s n refl (in_file t T i s n) refl)
-      (file_names f t T i _ s n (sym (found_shows f P 0x04 m (F.At s n) ex)))
+  names None ex =
+      subst (Names f t T i (field 0x04 (map (shown f) (entries_of P m)))) (script_missing f P m None ex t T i refl (in_table t T i) refl)
+      (table_names f t T i _ (sym (found_shows f P 0x04 m None ex)))
+  names (Some p) ex =
+      subst (Names f t T i (field 0x04 (map (shown f) (entries_of P m)))) (script_there f P m (Some p) ex t T i p refl (in_file t T i p.start p.len) refl)
+      (file_names f t T i _ p.start p.len (sym (found_shows f P 0x04 m (Some p) ex)))
 
   pub script_is : (r : OutputScript) → told_script r ≡ told_script (output_script_def f t T i (holds (entries_of P m)))
-      → ((e : PsbtError) → r ≡ O.Refused e → ⊥)
+      → ((e : PsbtError) → r ≡ Err e → ⊥)
       → standing f T r ≡ script_of (out_of (map (shown f) (entries_of P m))).script (entry_at (set_so_far t T) i)
   unfolding out_of
   script_is r p = subst (Names f t T i (field 0x04 (map (shown f) (entries_of P m)))) (sym (script_one r _ p)) (names (field_at f P 0x04 m) refl)

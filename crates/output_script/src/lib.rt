@@ -9,41 +9,35 @@ ghost use Rattle.entries.specs.Words.{pair_count};
 ghost use Rattle.fitness.specs.Fits.{entries_of};
 ghost use Rattle.output_script.specs.Scripts.{in_file, in_table};
 
-use all_maps_fit::FoundAt;
-use fitness::Fit;
-use format::{Looked, MapEntry, OutputScript, PSBT_OUT_SCRIPT, Psbt, PsbtError, State};
+use format::{MapEntry, PSBT_OUT_SCRIPT, Part, Psbt, PsbtError, ScriptPlace, State};
 
 // A script 04, once its entry of the script table is fit.
-fn in_file(state: State, scripts: &[u8], i: u64, start: usize, len: usize) -> OutputScript
-    ensures { result ≡ in_file state scripts.now i start len }
+fn in_file(state: State, scripts: &[u8], i: u64, p: Part) -> Result<Option<ScriptPlace>, PsbtError>
+    ensures { result ≡ in_file state scripts.now i p.start p.len }
 {
-    if state.set {
-        if scripts::entry_fits(true, scripts::entry_at(scripts, i)) {
-            OutputScript::InFile { start, len }
-        } else {
-            OutputScript::Refused(PsbtError::BadIndex)
-        }
-    } else {
-        OutputScript::InFile { start, len }
+    if state.set && !scripts::entry_fits(true, scripts::entry_at(scripts, i)) {
+        return Err(PsbtError::BadIndex);
     }
+    Ok(Some(ScriptPlace::InFile {
+        start: p.start,
+        len: p.len,
+    }))
 }
 
 // The script set, where there is no 04.
-fn in_table(state: State, scripts: &[u8], i: u64) -> OutputScript
+fn in_table(state: State, scripts: &[u8], i: u64) -> Result<Option<ScriptPlace>, PsbtError>
     ensures { result ≡ in_table state scripts.now i }
 {
-    if state.set {
-        if scripts::entry_fits(false, scripts::entry_at(scripts, i)) {
-            OutputScript::InTable {
-                start: i as usize * scripts::ENTRY + 1,
-                len: scripts::SCRIPT_LEN,
-            }
-        } else {
-            OutputScript::Refused(PsbtError::BadIndex)
-        }
-    } else {
-        OutputScript::Absent
+    if !state.set {
+        return Ok(None);
     }
+    if !scripts::entry_fits(false, scripts::entry_at(scripts, i)) {
+        return Err(PsbtError::BadIndex);
+    }
+    Ok(Some(ScriptPlace::InTable {
+        start: i as usize * scripts::ENTRY + 1,
+        len: scripts::SCRIPT_LEN,
+    }))
 }
 
 // The script of an output whose map is fit.
@@ -54,13 +48,13 @@ fn script_in(
     state: State,
     scripts: &[u8],
     i: u64,
-) -> OutputScript
+) -> Result<Option<ScriptPlace>, PsbtError>
     requires { m.first + m.count ≤ pair_count pairs.now }
     ensures { result ≡ output_script_def file.now state scripts.now i (holds (entries_of pairs.now m)) }
 {
     match all_maps_fit::found_field(file, pairs, m, PSBT_OUT_SCRIPT) {
-        FoundAt::Missing => in_table(state, scripts, i),
-        FoundAt::At { start, len } => in_file(state, scripts, i, start, len),
+        None => in_table(state, scripts, i),
+        Some(p) => in_file(state, scripts, i, p),
     }
 }
 
@@ -73,25 +67,26 @@ pub fn output_script(
     state: State,
     scripts: &[u8],
     i: u64,
-) -> OutputScript
+) -> Result<Option<ScriptPlace>, PsbtError>
     ensures { told_script result ≡ told_script (output_script_def file.now state scripts.now i
         (held_output file.now pairs.now maps.now psbt i)) }
 {
-    match fitness::fit_output(file, pairs, maps, psbt, i) {
-        Fit::Refused(e) => OutputScript::Refused(e),
-        Fit::Is(m) => script_in(file, pairs, m, state, scripts, i),
-    }
+    let m = fitness::fit_output(file, pairs, maps, psbt, i)?;
+    script_in(file, pairs, m, state, scripts, i)
 }
 
 // The part of the file or of the script table that an answer names: empty for absence and refusal.
-fn script_part<'a>(file: &'a [u8], scripts: &'a [u8], at: OutputScript) -> &'a [u8]
+fn script_part<'a>(
+    file: &'a [u8],
+    scripts: &'a [u8],
+    at: Result<Option<ScriptPlace>, PsbtError>,
+) -> &'a [u8]
     ensures { result.now ≡ script_part file.now scripts.now at }
 {
     match at {
-        OutputScript::Refused(_) => &file[..0],
-        OutputScript::Absent => &file[..0],
-        OutputScript::InFile { start, len } => lookup::part_of(file, Looked::At { start, len }),
-        OutputScript::InTable { start, len } => lookup::part_of(scripts, Looked::At { start, len }),
+        Err(_) | Ok(None) => &file[..0],
+        Ok(Some(ScriptPlace::InFile { start, len })) => fitness::bytes_at(file, start, len),
+        Ok(Some(ScriptPlace::InTable { start, len })) => fitness::bytes_at(scripts, start, len),
     }
 }
 

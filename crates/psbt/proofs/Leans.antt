@@ -4,34 +4,33 @@ use mathlib.Core.Path.{◌≡◌, refl, sym, ◌∙◌, ap, subst}
 use mathlib.Core.Bool.{Bool}
 use mathlib.Core.List.{List, [], ◌∷◌}
 use native.Mathlib.Omega.{arith}
-use borrow.Author.Tests.{lt-ltb, le-ltb, ne_eqb}
-use lib.Dec.{eqb}
+use borrow.Author.Tests.{lt-ltb, le-ltb}
 use lib.ListN.{length, length-append}
 use Rattle.format.specs.Tests.{pick}
-use Rattle.format.specs.Rules.{and_then, rule, GLOBAL, INPUT, OUTPUT}
+use Rattle.format.specs.Rules.{and_then, kind_of, rule, GLOBAL, INPUT, OUTPUT}
 use Rattle.format.specs.Content.{Pair, Map, field, counted, psbt_of, global_rule, modifiable, output_rule, outputs_rule}
 use Rattle.format.specs.Reading.{FieldRule, Item, stop, over, one, item, Mapped, ends, stops, front, turn, items, mapped}
 use Rattle.format.specs.Reading.{Reading, pair_events, map_events, maps_events, unless, two, lastly, global_then}
 use Rattle.format.specs.Reading as R
 use Rattle.format.specs.Entries.{pair_words, map_words, has_room_def, put_pair, put_map, entry_of, width}
 use Rattle.format.specs.Parse.{ParseOut, out, cut}
+use Rattle.format.specs.declared.MapKind.{MapKind}
+use Rattle.format.specs.declared.MapKind.TheVariants.{Global, Input, Output}
 use Rattle.format.specs.declared.PsbtError.TheVariants.{UnexpectedEof, PairsFull, MapsFull}
-use Rattle.format.specs.declared.Ruled.{Ruled}
-use Rattle.format.specs.declared.Ruled.TheVariants.{Passed, Refused}
+use Rattle.format.specs.Answers.{passed, Ruled}
+use Rattle.std.specs.Prelude.{Ok, Err}
 use Rattle.format.specs.declared.Psbt.{Psbt}
 use Rattle.format.specs.declared.Parsed.TheVariants as A
-use Rattle.format.proofs.Tests.{pick_by}
 use Rattle.format.proofs.Compact.{size_own}
 use Rattle.format.proofs.Numbers.{All}
 use Rattle.claims_reading.specs.Fine.{Rises, Keeps}
 use Rattle.claims_reading.proofs.Items.{ItemIs, item_is}
 use Rattle.claims_reading.proofs.Files.{pair_some}
-use Rattle.known_so_far.specs.SoFar.{note, with_globals, with_seen, at_first, globals_rule, psbt_from, close_global, close_output}
-use Rattle.known_so_far.specs.SoFar.{close, finish_by, finish, an_input, an_output, start, after_by, after}
+use Rattle.known_so_far.specs.SoFar.{note_by, note, with_globals, with_seen, at_first, globals_rule, psbt_from, close_global, close_output, After}
+use Rattle.known_so_far.specs.SoFar.{close_by, close, finish_by, finish, an_input, an_output, start, after_by, after}
 use Rattle.psbt.specs.Leans.{Lean, done, refusal, begins, pair, ended, lean, cut_lean, left, go_on, walk_turn_def, go, walk}
 use Rattle.known_so_far.specs.declared.Known.{Known}
-use Rattle.known_so_far.specs.declared.Next.{Next}
-use Rattle.known_so_far.specs.declared.Next.TheVariants.{Stop, Done, Map as More}
+use Rattle.known_so_far.specs.declared.Next.TheVariants.{Done, Map as More}
 use Rattle.known_so_far.proofs.Notes.{note_all, found_globals, found_seen, global_noted, output_noted, input_noted}
 use Rattle.known_so_far.proofs.Notes.{psbt_from_lem, global_rule_lem, seen_rule_lem, inputs_counted, outputs_counted}
 
@@ -50,11 +49,11 @@ cut_lean_lem at p m i P M (R.ended a r) = cut_lean_lem (at + length a) p (m + 1)
 abbrev Alike : List ℕ → (Known → List ℕ → List ℕ → Lean) → (Known → List ℕ → List ℕ → Lean) → Type 0
 Alike s i j = (v : Known) (l t : List ℕ) → length t < length s → i v l t ≡ j v l t
 
-go_on_same : (s r : List ℕ) (i j : Known → List ℕ → List ℕ → Lean) → Alike s i j → length r < length s → (x : Next) → go_on i r x ≡ go_on j r x
+go_on_same : (s r : List ℕ) (i j : Known → List ℕ → List ℕ → Lean) → Alike s i j → length r < length s → (x : After) → go_on i r x ≡ go_on j r x
 unfolding go_on
-go_on_same s r i j h l (Stop e) = refl
-go_on_same s r i j h l (Done y) = refl
-go_on_same s r i j h l (More w) = ap begins (h w [] r l)
+go_on_same s r i j h l (Err e) = refl
+go_on_same s r i j h l (Ok (Done y)) = refl
+go_on_same s r i j h l (Ok (More w)) = ap begins (h w [] r l)
 
 over_less : (ρ : FieldRule) (last s a r : List ℕ) → ItemIs ρ last s (over a r) → length r < length s
 over_less ρ last s a r w =
@@ -77,25 +76,28 @@ unfolding go
 fuel zero g w last s a b = absurd (omega arith)
 fuel (suc f) zero w last s a b = absurd (omega arith)
 fuel (suc f) (suc g) w last s a b =
-    turn_same w (rule w.kind) last s (go f) (go g) (λ v l t h. fuel f g v l t (omega arith) (omega arith))
-    (item (rule w.kind) last s) (item_is (rule w.kind) last s)
+    turn_same w (rule (kind_of w.kind)) last s (go f) (go g) (λ v l t h. fuel f g v l t (omega arith) (omega arith))
+    (item (rule (kind_of w.kind)) last s) (item_is (rule (kind_of w.kind)) last s)
 
-pub walk_turn : (w : Known) (last s : List ℕ) → walk w last s ≡ walk_turn_def walk w (item (rule w.kind) last s)
+pub walk_turn : (w : Known) (last s : List ℕ) → walk w last s ≡ walk_turn_def walk w (item (rule (kind_of w.kind)) last s)
 unfolding walk go
 walk_turn w last s =
-    turn_same w (rule w.kind) last s (go (length s)) walk
-    (λ v l t h. fuel (length s) (suc (length t)) v l t h (omega arith)) (item (rule w.kind) last s) (item_is (rule w.kind) last s)
+    turn_same w (rule (kind_of w.kind)) last s (go (length s)) walk
+    (λ v l t h. fuel (length s) (suc (length t)) v l t h (omega arith)) (item (rule (kind_of w.kind)) last s) (item_is (rule (kind_of w.kind)) last s)
 
 -- in a map: the definition's events are the walk's, if they are behind it
 kind_note : (key v : List ℕ) (w : Known) → (note key v w).kind ≡ w.kind
-unfolding note with_globals with_seen
-kind_note key v w =
-    pick_by (λ (x : Known). x.kind ≡ w.kind) (eqb w.kind GLOBAL) _ _ (λ q. refl)
-    (λ q. pick_by (λ (x : Known). x.kind ≡ w.kind) (eqb w.kind OUTPUT) _ _ (λ t. refl) (λ t. refl))
+unfolding note note_by with_globals with_seen
+kind_note key v w = by w.kind
+  where
+    by : (k : MapKind) → (note_by k key v w).kind ≡ w.kind
+    by Global = refl
+    by Input = refl
+    by Output = refl
 
 abbrev Behind : (Map → List ℕ → Reading) → Known → List ℕ → List ℕ → Type 0
 Behind j w last s = (ps : List Pair) (a r : List ℕ) → Rises last ps
-    → All (Keeps (rule w.kind)) ps → lean (j (record { pairs = ps; end = a }) r) ≡ go_on walk r (after (note_all w ps) (left r))
+    → All (Keeps (rule (kind_of w.kind))) ps → lean (j (record { pairs = ps; end = a }) r) ≡ go_on walk r (after (note_all w ps) (left r))
 
 front_events : (j : Map → List ℕ → Reading) (p : Pair) (o : Mapped)
     → map_events j (front p o) ≡ R.pair p (map_events (λ m r. j (record { pairs = p ∷ m.pairs; end = m.end }) r) o)
@@ -104,71 +106,71 @@ front_events j p (stops ps e) = refl
 front_events j p (ends ps a r) = refl
 
 in_map : (n : ℕ) (w : Known) (last s : List ℕ) (j : Map → List ℕ → Reading)
-    → length s < n → Behind j w last s → lean (map_events j (items n (rule w.kind) last s)) ≡ walk w last s
+    → length s < n → Behind j w last s → lean (map_events j (items n (rule (kind_of w.kind)) last s)) ≡ walk w last s
 unfolding items
 in_map zero w last s j l h = absurd (omega arith)
 in_map (suc n) w last s j l h =
-    by (λ v t r i. in_map n v t r i) (item (rule w.kind) last s) (item_is (rule w.kind) last s) ∙ sym (walk_turn w last s)
+    by (λ v t r i. in_map n v t r i) (item (rule (kind_of w.kind)) last s) (item_is (rule (kind_of w.kind)) last s) ∙ sym (walk_turn w last s)
   where
     by : ((v : Known) (t r : List ℕ) (i : Map → List ℕ → Reading)
-        → length r < n → Behind i v t r → lean (map_events i (items n (rule v.kind) t r)) ≡ walk v t r)
-        → (o : Item) → ItemIs (rule w.kind) last s o → lean (map_events j (turn (items n (rule w.kind)) o)) ≡ walk_turn_def walk w o
+        → length r < n → Behind i v t r → lean (map_events i (items n (rule (kind_of v.kind)) t r)) ≡ walk v t r)
+        → (o : Item) → ItemIs (rule (kind_of w.kind)) last s o → lean (map_events j (turn (items n (rule (kind_of w.kind))) o)) ≡ walk_turn_def walk w o
     by more (stop e) x = unfold turn map_events pair_events lean walk_turn_def in refl
     by more (over a r) x = unfold turn map_events pair_events lean walk_turn_def note_all in ap (ended a) (h [] a r tt tt)
     by more (one p r) x =
-        let m = one_less (rule w.kind) last s p r x in
+        let m = one_less (rule (kind_of w.kind)) last s p r x in
         unfold turn walk_turn_def lean note_all in
-        (ap lean (front_events j p (items n (rule w.kind) p.key r))
-        ∙ ap (pair p) (ap (λ (k : ℕ). lean (map_events (λ m r. j (record { pairs = p ∷ m.pairs; end = m.end }) r) (items n (rule k) p.key r)))
+        (ap lean (front_events j p (items n (rule (kind_of w.kind)) p.key r))
+        ∙ ap (pair p) (ap (λ (k : MapKind). lean (map_events (λ m r. j (record { pairs = p ∷ m.pairs; end = m.end }) r) (items n (rule (kind_of k)) p.key r)))
         (sym (kind_note p.key p.value w))
         ∙ more (note p.key p.value w) p.key r (λ m r. j (record { pairs = p ∷ m.pairs; end = m.end }) r) (omega arith)
-        (λ ps a q R K. h (p ∷ ps) a q (x.rises, R) (x.keeps, subst (λ (k : ℕ). All (Keeps (rule k)) ps) (kind_note p.key p.value w) K))))
+        (λ ps a q R K. h (p ∷ ps) a q (x.rises, R) (x.keeps, subst (λ (k : MapKind). All (Keeps (rule (kind_of k))) ps) (kind_note p.key p.value w) K))))
 
 -- the end of a file: nothing left over, and then what the output rules say
 unfoldable ends_by : Psbt → Ruled → List ℕ → Lean
-ends_by s Passed [] = done s
-ends_by s (Refused e) [] = refusal e
+ends_by s (Ok u) [] = done s
+ends_by s (Err e) [] = refusal e
 ends_by s y (x ∷ r) = refusal UnexpectedEof
 
-and_passed : (y : Ruled) → and_then y Passed ≡ y
+and_passed : (y : Ruled) → and_then y passed ≡ y
 unfolding and_then
-and_passed Passed = refl
-and_passed (Refused e) = refl
+and_passed (Ok u) = refl
+and_passed (Err e) = refl
 
 and_assoc : (x y z : Ruled) → and_then x (and_then y z) ≡ and_then (and_then x y) z
 unfolding and_then
-and_assoc Passed y z = refl
-and_assoc (Refused e) y z = refl
+and_assoc (Ok u) y z = refl
+and_assoc (Err e) y z = refl
 
 finish_ends : (w : Known) (s : Psbt) (x : List ℕ) → psbt_from w.globals ≡ s → go_on walk x (finish w (left x)) ≡ ends_by s w.ruled x
 unfolding go_on finish left
 finish_ends w s x h = by w.ruled x
   where
-    by : (y : Ruled) (x : List ℕ) → go_on walk x (pick (left x) (Stop UnexpectedEof) (finish_by w y)) ≡ ends_by s y x
-    by Passed [] = unfold finish_by ends_by in ap done h
-    by (Refused e) [] = unfold finish_by ends_by in refl
-    by Passed (b ∷ r) = unfold ends_by in refl
-    by (Refused e) (b ∷ r) = unfold ends_by in refl
+    by : (y : Ruled) (x : List ℕ) → go_on walk x (pick (left x) (Err UnexpectedEof) (finish_by w y)) ≡ ends_by s y x
+    by (Ok u) [] = unfold finish_by ends_by in ap done h
+    by (Err e) [] = unfold finish_by ends_by in refl
+    by (Ok u) (b ∷ r) = unfold ends_by in refl
+    by (Err e) (b ∷ r) = unfold ends_by in refl
 
 start_none : (w : Known) (b : Bool) → w.inputs ≡ 0 → w.outputs ≡ 0 → start w b ≡ finish w b
 unfolding start
 start_none w b i o = rw (le-ltb 0 w.inputs (omega arith), le-ltb 0 w.outputs (omega arith))
 
-start_input : (w : Known) (b : Bool) (n : ℕ) → w.inputs ≡ suc n → start w b ≡ More (an_input w)
+start_input : (w : Known) (b : Bool) (n : ℕ) → w.inputs ≡ suc n → start w b ≡ Ok (More (an_input w))
 unfolding start
 start_input w b n i = rw (lt-ltb 0 w.inputs (omega arith))
 
-start_output : (w : Known) (b : Bool) (n : ℕ) → w.inputs ≡ 0 → w.outputs ≡ suc n → start w b ≡ More (an_output w)
+start_output : (w : Known) (b : Bool) (n : ℕ) → w.inputs ≡ 0 → w.outputs ≡ suc n → start w b ≡ Ok (More (an_output w))
 unfolding start
 start_output w b n i o = rw (le-ltb 0 w.inputs (omega arith), lt-ltb 0 w.outputs (omega arith))
 
-after_output : (w : Known) (b : Bool) → w.kind ≡ OUTPUT → after w b ≡ start (close_output w) b
-unfolding after close after_by
+after_output : (w : Known) (b : Bool) → w.kind ≡ Output → after w b ≡ start (close_output w) b
+unfolding after close close_by after_by
 after_output w b k = rw k
 
-after_input : (w : Known) (b : Bool) → w.kind ≡ INPUT → after w b ≡ start w b
-unfolding after close after_by
-after_input w b k = rw (ne_eqb w.kind GLOBAL (λ e. omega arith), ne_eqb w.kind OUTPUT (λ e. omega arith))
+after_input : (w : Known) (b : Bool) → w.kind ≡ Input → after w b ≡ start w b
+unfolding after close close_by after_by
+after_input w b k = rw k
 
 -- the outputs that are still to come, behind a global map with the pairs g
 module _ (g : List Pair) where
@@ -223,17 +225,17 @@ unfolding lastly lean
 lastly_ends g is os (b ∷ x) = by (outputs_rule (modifiable (field 0x06 g.pairs)) os)
   where
     by : (y : Ruled) → refusal UnexpectedEof ≡ ends_by (psbt_of g.pairs) y (b ∷ x)
-    by Passed = unfold ends_by in refl
-    by (Refused e) = unfold ends_by in refl
+    by (Ok u) = unfold ends_by in refl
+    by (Err e) = unfold ends_by in refl
 lastly_ends g is os [] = by (outputs_rule (modifiable (field 0x06 g.pairs)) os)
   where
     by : (y : Ruled) → lean (unless y (R.done (record { global = g; ins = is; outs = os }))) ≡ ends_by (psbt_of g.pairs) y []
-    by Passed = unfold unless ends_by in refl
-    by (Refused e) = unfold unless ends_by in refl
+    by (Ok u) = unfold unless ends_by in refl
+    by (Err e) = unfold unless ends_by in refl
 
 -- behind the global map
-after_global : (w : Known) (b : Bool) → w.kind ≡ GLOBAL → after w b ≡ after_by b (close_global w (globals_rule w.globals))
-unfolding after close
+after_global : (w : Known) (b : Bool) → w.kind ≡ Global → after w b ≡ after_by b (close_global w (globals_rule w.globals))
+unfolding after close close_by
 after_global w b k = rw k
 
 global_are : (ps : List Pair) (a r : List ℕ) → Rises [] ps → All (Keeps (rule GLOBAL)) ps
@@ -249,8 +251,8 @@ global_are ps a r R K =
     by : (y : Ruled) → global_rule ps ≡ y → lean (unless y (maps_events (rule INPUT) (counted (field 0x04 ps)) r
         (λ is q. maps_events (rule OUTPUT) (counted (field 0x05 ps)) q (λ os x. lastly two (record { pairs = ps; end = a }) is os x))))
         ≡ go_on walk r (after_by (left r) (close_global w (globals_rule (found_globals ps))))
-    by (Refused e) q = unfold unless lean go_on in rw (global_rule_lem ps, q) (unfold close_global after_by in refl)
-    by Passed q = unfold unless in rw (global_rule_lem ps, q) (unfold close_global after_by with_globals in
+    by (Err e) q = unfold unless lean go_on in rw (global_rule_lem ps, q) (unfold close_global after_by in refl)
+    by (Ok u) q = unfold unless in rw (global_rule_lem ps, q) (unfold close_global after_by with_globals in
         inputs_are _ _ r _ (inputs_counted ps)
         (λ is x v z e. outputs_are ps _ v x _ z (e.outputs ∙ outputs_counted ps) e.globals
         (λ os y. lastly_ends (record { pairs = ps; end = a }) is os y

@@ -14,6 +14,7 @@ use lib.Seq.{drop-drop}
 use mir.Syntax.{w64}
 use mir.Val.{Fits}
 use Rattle.format.specs.Tests.{pick}
+use Rattle.format.specs.Rules.{kind_of}
 use Rattle.format.specs.Entries.{pair_words, map_words, has_room_def, put_pair, put_map}
 use Rattle.format.specs.Parse.{ParseOut, out}
 use Rattle.format.specs.declared.PsbtError.{PsbtError}
@@ -22,21 +23,19 @@ use Rattle.format.specs.declared.PairEntry.{PairEntry}
 use Rattle.format.specs.declared.Psbt.{Psbt}
 use Rattle.format.specs.declared.Parsed.TheVariants as A
 use Rattle.wire.proofs.Sizes.{part_rest}
-use Rattle.parsed_map.specs.Fronts.{item_of}
+use Rattle.parsed_map.specs.Fronts.{item_of, ItemRead}
 use Rattle.parsed_map.specs.Shown.{pair_at, shown}
-use Rattle.parsed_map.specs.declared.Item.{Item}
+use Rattle.std.specs.Prelude.{Ok, Err}
 use Rattle.parsed_map.specs.declared.Item.TheVariants as I
 use Rattle.parsed_map.proofs.Items.{over_in, over_length, one_in, width_is, entry_is}
 use Rattle.parsed_map.proofs.Twins.{twin}
 use Rattle.entries.specs.Words.{PairFits, MapFits}
 use Rattle.format.proofs.Entries.{length_put_pair, length_put_map}
-use Rattle.known_so_far.specs.SoFar.{note, at_first, after}
+use Rattle.known_so_far.specs.SoFar.{note, at_first, after, After}
 use Rattle.psbt.specs.Leans.{begins, cut_lean, left, go_on, walk_turn_def, walk, maps_read}
 use Rattle.psbt.specs.Steps.{Places, InLimit, step_by, step_at}
 use Rattle.known_so_far.specs.declared.Known.{Known}
-use Rattle.psbt.specs.declared.Step.{Step}
-use Rattle.psbt.specs.declared.Step.TheVariants.{Stop, Over, One}
-use Rattle.known_so_far.specs.declared.Next.{Next}
+use Rattle.parsed_map.specs.declared.Item.TheVariants.{Over, One}
 use Rattle.known_so_far.specs.declared.Next.TheVariants as N
 use Rattle.psbt.proofs.Leans.{walk_turn}
 use Rattle.psbt.proofs.Steps.{limit_fits}
@@ -57,43 +56,43 @@ abbrev pub noted_at : List ℕ → Known → PairEntry → Known
 noted_at F w e = note (between F e.key (e.key + e.klen)) (between F e.value (e.value + e.vlen)) w
 
 -- by a step
-unfoldable pub step_cut : List ℕ → List ℕ → List ℕ → ℕ → Known → ℕ → ℕ → Step → ParseOut
-step_cut F P M m w p i (Stop e) = out (A.Refused e p m) P M
-step_cut F P M m w p i (Over to) =
+unfoldable pub step_cut : List ℕ → List ℕ → List ℕ → ℕ → Known → ℕ → ℕ → ItemRead → ParseOut
+step_cut F P M m w p i (Err e) = out (A.Refused e p m) P M
+step_cut F P M m w p i (Ok (Over to)) =
     cut_lean to p (m + 1) p P (put_map M m (record { first = i; count = p - i })) (go_on walk (drop to F) (after w (left (drop to F))))
-step_cut F P M m w p i (One e) =
+step_cut F P M m w p i (Ok (One e)) =
     pick (has_room_def pair_words p P) (in_map_def F (put_pair P p e) M m (noted_at F w e) (e.value + e.vlen) (p + 1) e.key (e.key + e.klen) i)
     (out (A.Refused PairsFull p m) P M)
 
 -- a step is what the walk does
 module _ (F P M : List ℕ) (m : ℕ) (w : Known) (at p i : ℕ) (last : List ℕ) where
-  by_item : (z : Item) → z ≡ item_of w.kind last (drop at F)
+  by_item : (z : ItemRead) → z ≡ item_of (kind_of w.kind) last (drop at F)
       → cut_lean at p m i P M (walk_turn_def walk w (shown (drop at F) z)) ≡ step_cut F P M m w p i (step_by at z)
   unfolding walk_turn_def shown step_by step_cut cut_lean
-  by_item (I.Stop e) h = refl
-  by_item (I.Over u) h =
+  by_item (Err e) h = refl
+  by_item (Ok (I.Over u)) h =
       ap₂ (λ (n : ℕ) (t : List ℕ). cut_lean (at + n) p (m + 1) p P (put_map M m (record { first = i; count = p - i })) (go_on walk t (after w (left t))))
-      (over_length w.kind last (drop at F) (I.Over u) h u refl) (drop-drop u at F)
-  by_item (I.One a l b v) h =
-      let n = one_in w.kind last (drop at F) (I.One a l b v) h a l b v refl in
-      let s : at + (b + v) ≡ at + b + v = omega arith in
+      (over_length (kind_of w.kind) last (drop at F) (Ok (I.Over u)) h u refl) (drop-drop u at F)
+  by_item (Ok (I.One e)) h =
+      let n = one_in (kind_of w.kind) last (drop at F) (Ok (I.One e)) h e refl in
+      let s : at + (e.value + e.vlen) ≡ at + e.value + e.vlen = omega arith in
       ap (λ (x : ParseOut). pick (has_room_def pair_words p P) x (out (A.Refused PairsFull p m) P M))
       (rw (
-        width_is (drop at F) a l b v n,
-        entry_is (drop at F) a l b v n at,
-        drop-drop (b + v) at F,
+        width_is (drop at F) e.key e.klen e.value e.vlen n,
+        entry_is (drop at F) e.key e.klen e.value e.vlen n at,
+        drop-drop (e.value + e.vlen) at F,
         s,
-        add-sub_cancel_left (at + a) l,
-        add-sub_cancel_left (at + b) v,
-        ← drop-drop a at F,
-        ← drop-drop b at F,
+        add-sub_cancel_left (at + e.key) e.klen,
+        add-sub_cancel_left (at + e.value) e.vlen,
+        ← drop-drop e.key at F,
+        ← drop-drop e.value at F,
       ) (unfold pair_at in refl))
 
-  pub turned : cut_lean at p m i P M (walk w last (drop at F)) ≡ step_cut F P M m w p i (step_at (drop at F) last at w.kind)
+  pub turned : cut_lean at p m i P M (walk w last (drop at F)) ≡ step_cut F P M m w p i (step_at (drop at F) last at (kind_of w.kind))
   unfolding step_at
   turned =
-      ap (cut_lean at p m i P M) (walk_turn w last (drop at F) ∙ ap (walk_turn_def walk w) (sym (twin w.kind last (drop at F))))
-      ∙ by_item (item_of w.kind last (drop at F)) refl
+      ap (cut_lean at p m i P M) (walk_turn w last (drop at F) ∙ ap (walk_turn_def walk w) (sym (twin (kind_of w.kind) last (drop at F))))
+      ∙ by_item (item_of (kind_of w.kind) last (drop at F)) refl
 
 pub record AtMaps (F P₀ M₀ P M : List ℕ) (w : Known) (at p m : ℕ) : Type 0 where
   pub at≤ : at ≤ length F
@@ -153,20 +152,20 @@ pub record OneAt (F : List ℕ) (at : ℕ) (e : PairEntry) : Type 0 where
   pub value : e.value + e.vlen ≤ length F
   pub moves : at < e.value + e.vlen
 
-abbrev StepIn : List ℕ → ℕ → Step → Type 0
-StepIn F at (Stop e) = Unit {0}
-StepIn F at (Over to) = (at < to) × (to ≤ length F)
-StepIn F at (One e) = OneAt F at e
+abbrev StepIn : List ℕ → ℕ → ItemRead → Type 0
+StepIn F at (Err e) = Unit {0}
+StepIn F at (Ok (Over to)) = (at < to) × (to ≤ length F)
+StepIn F at (Ok (One e)) = OneAt F at e
 
-by_in : (F : List ℕ) (at k : ℕ) (last : List ℕ) → at ≤ length F → (z : Item) → z ≡ item_of k last (drop at F) → StepIn F at (step_by at z)
+by_in : (F : List ℕ) (at k : ℕ) (last : List ℕ) → at ≤ length F → (z : ItemRead) → z ≡ item_of k last (drop at F) → StepIn F at (step_by at z)
 unfolding step_by
-by_in F at k last h (I.Stop e) q = tt
-by_in F at k last h (I.Over u) q =
-    let x = over_in k last (drop at F) (I.Over u) q u refl in
+by_in F at k last h (Err e) q = tt
+by_in F at k last h (Ok (I.Over u)) q =
+    let x = over_in k last (drop at F) (Ok (I.Over u)) q u refl in
     let e : length (drop at F) ≡ length F - at = length-drop at F in
     (omega (arith, x.0), omega (arith, x.1))
-by_in F at k last h (I.One a l b v) q =
-    let x = one_in k last (drop at F) (I.One a l b v) q a l b v refl in
+by_in F at k last h (Ok (I.One e)) q =
+    let x = one_in k last (drop at F) (Ok (I.One e)) q e refl in
     let e : length (drop at F) ≡ length F - at = length-drop at F in
     record { key = omega (arith, x.ends); value = omega (arith, x.inside); moves = omega (arith, x.moves) }
 
@@ -189,23 +188,23 @@ rest_places F at l h =
     record { within = omega (arith, l.short) }
 
 module _ (F P₁ M : List ℕ) (w₁ : Known) (at₁ p₁ m : ℕ) (P : List ℕ) (w : Known) (at p la le : ℕ) (i : InMap F P₁ M w₁ at₁ p₁ m p₁ at₁ at₁ P w at p la le)
-    (o : Step) (is : o ≡ step_at (take (length F - at) (drop at F)) (take (le - la) (drop la F)) at w.kind) where
-  here : (y : Step) → o ≡ y → in_map_def F P M m w at p la le p₁ ≡ step_cut F P M m w p p₁ y
+    (o : ItemRead) (is : o ≡ step_at (take (length F - at) (drop at F)) (take (le - la) (drop la F)) at (kind_of w.kind)) where
+  here : (y : ItemRead) → o ≡ y → in_map_def F P M m w at p la le p₁ ≡ step_cut F P M m w p p₁ y
   here y e =
       turned F P M m w at p p₁ (between F la le)
-      ∙ ap (step_cut F P M m w p p₁) (ap (λ (s : List ℕ). step_at s (between F la le) at w.kind) (sym (part_rest at F)) ∙ sym is ∙ e)
+      ∙ ap (step_cut F P M m w p p₁) (ap (λ (s : List ℕ). step_at s (between F la le) at (kind_of w.kind)) (sym (part_rest at F)) ∙ sym is ∙ e)
 
-  in_file_lem : (y : Step) → o ≡ y → StepIn F at y
+  in_file_lem : (y : ItemRead) → o ≡ y → StepIn F at y
   in_file_lem y e =
-      subst (StepIn F at) (ap (λ (s : List ℕ). step_at s (between F la le) at w.kind) (sym (part_rest at F))
-      ∙ sym is ∙ e) (step_in F at w.kind (between F la le) i.at≤)
+      subst (StepIn F at) (ap (λ (s : List ℕ). step_at s (between F la le) at (kind_of w.kind)) (sym (part_rest at F))
+      ∙ sym is ∙ e) (step_in F at (kind_of w.kind) (between F la le) i.at≤)
 
-  pub over_less : (to : ℕ) → o ≡ Over to → length F - to < length F - at₁
-  over_less to e = omega (arith, in_file_lem (Over to) e, i.at₁≤)
+  pub over_less : (to : ℕ) → o ≡ Ok (Over to) → length F - to < length F - at₁
+  over_less to e = omega (arith, in_file_lem (Ok (Over to)) e, i.at₁≤)
 
-  module _ (e : PairEntry) (h : o ≡ One e) where
+  module _ (e : PairEntry) (h : o ≡ Ok (One e)) where
     bounds : OneAt F at e
-    bounds = in_file_lem (One e) h
+    bounds = in_file_lem (Ok (One e)) h
 
     pub one_key_in : e.key + e.klen ≤ length F
     one_key_in = omega (arith, bounds.key, bounds.value)
@@ -246,21 +245,21 @@ module _ (F P₁ M : List ℕ) (w₁ : Known) (at₁ p₁ m : ℕ) (P : List ℕ
           i≤ = omega (arith, i.i≤);
           at₁≤ = omega (arith, i.at₁≤, bounds.moves);
           P= = long ∙ i.P=;
-          is = rw (q, x) (sym (here (One e) h ∙ rw (room_yes b (has_room_def pair_words p P) r n)) ∙ i.is);
+          is = rw (q, x) (sym (here (Ok (One e)) h ∙ rw (room_yes b (has_room_def pair_words p P) r n)) ∙ i.is);
         }
 
   module _ (P₀ M₀ : List ℕ) (j : AtMaps F P₀ M₀ P₁ M w₁ at₁ p₁ m) (b : Bool) (t : b ≡ has_room_def map_words m M) (n : not b ≡ false) where
     so : in_map_def F P M m w at p la le p₁ ≡ maps_read F P₀ M₀
     so = i.is ∙ enter F P₀ M₀ P₁ M w₁ at₁ p₁ m j b t n
 
-    pub exit_stop : (e : PsbtError) → o ≡ Stop e → out (A.Refused e p m) P M ≡ maps_read F P₀ M₀
+    pub exit_stop : (e : PsbtError) → o ≡ Err e → out (A.Refused e p m) P M ≡ maps_read F P₀ M₀
     unfolding step_cut
-    exit_stop e q = sym (here (Stop e) q) ∙ so
+    exit_stop e q = sym (here (Err e) q) ∙ so
 
-    pub exit_22 : (e : PairEntry) → o ≡ One e → (c : Bool) → c ≡ has_room_def pair_words p P → not c ≡ true
+    pub exit_22 : (e : PairEntry) → o ≡ Ok (One e) → (c : Bool) → c ≡ has_room_def pair_words p P → not c ≡ true
         → out (A.Refused PairsFull p m) P M ≡ maps_read F P₀ M₀
     unfolding step_cut
-    exit_22 e q c r k = sym (here (One e) q ∙ rw (room_no c (has_room_def pair_words p P) r k)) ∙ so
+    exit_22 e q c r k = sym (here (Ok (One e)) q ∙ rw (room_no c (has_room_def pair_words p P) r k)) ∙ so
 
     pub map_writes : InLimit (length F) → MapFits M m (record { first = p₁; count = p - p₁ })
     unfolding has_room_def
@@ -274,33 +273,33 @@ module _ (F P₁ M : List ℕ) (w₁ : Known) (at₁ p₁ m : ℕ) (P : List ℕ
     unfolding has_room_def
     map_more l = record { fits = omega (arith, leb-true (m * map_words + map_words) (length M) (room_yes b (has_room_def map_words m M) t n)) }
 
-    module _ (to : ℕ) (q : o ≡ Over to) (M' : List ℕ) (u : M' ≡ put_map M m (record { first = p₁; count = p - p₁ }))
-        (x : Next) (it : x ≡ after w (ltb to (length F))) where
-      behind : (y : Next) → x ≡ y → cut_lean to p (m + 1) p P M' (go_on walk (drop to F) y) ≡ maps_read F P₀ M₀
+    module _ (to : ℕ) (q : o ≡ Ok (Over to)) (M' : List ℕ) (u : M' ≡ put_map M m (record { first = p₁; count = p - p₁ }))
+        (x : After) (it : x ≡ after w (ltb to (length F))) where
+      behind : (y : After) → x ≡ y → cut_lean to p (m + 1) p P M' (go_on walk (drop to F) y) ≡ maps_read F P₀ M₀
       unfolding step_cut
       behind y e =
-          rw (u, ← (sym it ∙ e), left_is F to) (sym (here (Over to) q) ∙ so)
+          rw (u, ← (sym it ∙ e), left_is F to) (sym (here (Ok (Over to)) q) ∙ so)
 
-      pub exit_after : (e : PsbtError) → x ≡ N.Stop e → out (A.Refused e p (m + 1)) P M' ≡ maps_read F P₀ M₀
+      pub exit_after : (e : PsbtError) → x ≡ Err e → out (A.Refused e p (m + 1)) P M' ≡ maps_read F P₀ M₀
       unfolding cut_lean go_on
-      exit_after e z = behind (N.Stop e) z
+      exit_after e z = behind (Err e) z
 
-      pub exit_done : (s : Psbt) → x ≡ N.Done s → out (A.Accepted s p (m + 1)) P M' ≡ maps_read F P₀ M₀
+      pub exit_done : (s : Psbt) → x ≡ Ok (N.Done s) → out (A.Accepted s p (m + 1)) P M' ≡ maps_read F P₀ M₀
       unfolding cut_lean go_on
-      exit_done s z = behind (N.Done s) z
+      exit_done s z = behind (Ok (N.Done s)) z
 
-      pub maps_next : (v : Known) → x ≡ N.Map v → AtMaps F P₀ M₀ P M' v to p (m + 1)
+      pub maps_next : (v : Known) → x ≡ Ok (N.Map v) → AtMaps F P₀ M₀ P M' v to p (m + 1)
       unfolding go_on has_room_def
       maps_next v z =
           let long : length M' ≡ length M = ap length u ∙ length_put_map M m (record { first = p₁; count = p - p₁ }) in
-          let y = in_file_lem (Over to) q in
+          let y = in_file_lem (Ok (Over to)) q in
           record {
             at≤ = y.1;
             p≤ = omega (arith, i.p≤, y.0);
             m2 = omega (arith, leb-true (m * map_words + map_words) (length M) (room_yes b (has_room_def map_words m M) t n));
             P= = i.P= ∙ j.P=;
             M= = long ∙ j.M=;
-            is = behind (N.Map v) z;
+            is = behind (Ok (N.Map v)) z;
           }
 
 pub ruleset loops = (

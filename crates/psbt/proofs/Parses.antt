@@ -1,4 +1,5 @@
 -- A parse is its length, its magic and its maps, cut by the room; any two outcomes that meet its promise agree; and what it accepts it shows.
+use Rattle.std.specs.Ordering.{is_eq}
 use Prim.Native.Nat.{ℕ, ◌≤◌, ◌<◌}
 use mathlib.Core.Path.{◌≡◌, sym, ◌∙◌, ap}
 use mathlib.Core.Bool.{Bool, true, false, not}
@@ -7,15 +8,15 @@ use native.Mathlib.Omega.{arith}
 use borrow.Author.Tests.{le-leb, lt-leb, not-true, not-false}
 use lib.ListN.{length, take, drop, length-take}
 use lib.Seq.{take_all}
-use Rattle.format.specs.Keys.{order, is_same_def, same}
+use Rattle.format.specs.Keys.{order, same}
 use Rattle.format.specs.Content.{magic, maps_of}
 use Rattle.format.specs.Reading.{limit, events_of, events, reading}
 use Rattle.format.specs.Tables.{view}
 use Rattle.format.specs.Parse.{ParseOut, out, cut, parsed}
 use Rattle.format.specs.Told.{told_with, told_parsed, told_parse}
 use Rattle.format.specs.declared.PsbtError.TheVariants.{InvalidMagic, TooLong}
-use Rattle.format.specs.declared.Order.{Order}
-use Rattle.format.specs.declared.Order.TheVariants.{Below, Same, Above}
+use Rattle.std.specs.declared.cmp.Ordering.{Ordering}
+use Rattle.std.specs.declared.cmp.Ordering.TheVariants.{Less, Equal, Greater}
 use Rattle.format.specs.declared.Psbt.{Psbt}
 use Rattle.format.specs.declared.Parsed.{Parsed}
 use Rattle.format.specs.declared.Parsed.TheVariants as A
@@ -37,18 +38,18 @@ magic_short F h =
     sym (no_by (same (take 5 F) magic) (λ q. let e : length (take 5 F) ≡ 5 = ap length (same_is (take 5 F) magic q) in
     let f : length (take 5 F) ≡ length F = ap length (take_all 5 F (omega arith)) in omega arith))
 
-module _ (F : List ℕ) (o : Order) (is : o ≡ order (take 5 F) magic) where
-  pub magic_below : o ≡ Below → false ≡ same (take 5 F) magic
-  unfolding same is_same_def
-  magic_below h = ap is_same_def (sym (sym is ∙ h))
+module _ (F : List ℕ) (o : Ordering) (is : o ≡ order (take 5 F) magic) where
+  pub magic_below : o ≡ Less → false ≡ same (take 5 F) magic
+  unfolding same
+  magic_below h = ap is_eq (sym (sym is ∙ h))
 
-  pub magic_same : o ≡ Same → true ≡ same (take 5 F) magic
-  unfolding same is_same_def
-  magic_same h = ap is_same_def (sym (sym is ∙ h))
+  pub magic_same : o ≡ Equal → true ≡ same (take 5 F) magic
+  unfolding same
+  magic_same h = ap is_eq (sym (sym is ∙ h))
 
-  pub magic_above : o ≡ Above → false ≡ same (take 5 F) magic
-  unfolding same is_same_def
-  magic_above h = ap is_same_def (sym (sym is ∙ h))
+  pub magic_above : o ≡ Greater → false ≡ same (take 5 F) magic
+  unfolding same
+  magic_above h = ap is_eq (sym (sym is ∙ h))
 
 pub ruleset magics = (magic_short, magic_below, magic_same, magic_above)
 

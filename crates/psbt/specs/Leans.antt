@@ -1,8 +1,8 @@
 -- A file read with what is known carried along: its events, with what is reported in place of the content.
-use Rattle.std.specs.Prelude.{ℕ, zero, suc, ◌+◌, ◌-◌, Bool, true, false, List, [], ◌∷◌, length, drop}
+use Rattle.std.specs.Prelude.{ℕ, zero, suc, ◌+◌, ◌-◌, Bool, true, false, List, [], ◌∷◌, length, drop, Ok, Err}
 use Rattle.format.specs.Tests.{pick}
 use Rattle.format.specs.Content.{Pair, magic, psbt_of}
-use Rattle.format.specs.Rules.{rule}
+use Rattle.format.specs.Rules.{kind_of, rule}
 use Rattle.format.specs.Reading.{Item, stop, over, one, item, Reading}
 use Rattle.format.specs.Reading as R
 use Rattle.format.specs.Entries.{pair_words, map_words, has_room_def, put_pair, put_map, entry_of, width}
@@ -11,10 +11,9 @@ use Rattle.format.specs.declared.PsbtError.{PsbtError}
 use Rattle.format.specs.declared.PsbtError.TheVariants.{UnexpectedEof, PairsFull, MapsFull}
 use Rattle.format.specs.declared.Psbt.{Psbt}
 use Rattle.format.specs.declared.Parsed.TheVariants as A
-use Rattle.known_so_far.specs.SoFar.{note, at_first, after}
+use Rattle.known_so_far.specs.SoFar.{note, at_first, after, After}
 use Rattle.known_so_far.specs.declared.Known.{Known}
-use Rattle.known_so_far.specs.declared.Next.{Next}
-use Rattle.known_so_far.specs.declared.Next.TheVariants.{Stop, Done, Map as More}
+use Rattle.known_so_far.specs.declared.Next.TheVariants.{Done, Map as More}
 
 -- what happens in a file, with what is reported in place of the content
 pub data Lean : Type 0 where
@@ -47,10 +46,10 @@ left [] = false
 left (x ∷ r) = true
 
 -- what follows a map, with k for the map after it
-unfoldable pub go_on : (Known → List ℕ → List ℕ → Lean) → List ℕ → Next → Lean
-go_on k r (Stop e) = refusal e
-go_on k r (Done s) = done s
-go_on k r (More w) = begins (k w [] r)
+unfoldable pub go_on : (Known → List ℕ → List ℕ → Lean) → List ℕ → After → Lean
+go_on k r (Err e) = refusal e
+go_on k r (Ok (Done s)) = done s
+go_on k r (Ok (More w)) = begins (k w [] r)
 
 -- an item, with k for what follows it
 unfoldable pub walk_turn_def : (Known → List ℕ → List ℕ → Lean) → Known → Item → Lean
@@ -61,7 +60,7 @@ walk_turn_def k w (one p r) = pair p (k (note p.key p.value w) p.key r)
 -- no more turns than the first number says
 unfoldable pub go : ℕ → Known → List ℕ → List ℕ → Lean
 go zero w last s = refusal UnexpectedEof
-go (suc n) w last s = walk_turn_def (go n) w (item (rule w.kind) last s)
+go (suc n) w last s = walk_turn_def (go n) w (item (rule (kind_of w.kind)) last s)
 
 -- the rest s of a file, in the middle of a map whose last key is `last`
 unfoldable pub walk : Known → List ℕ → List ℕ → Lean

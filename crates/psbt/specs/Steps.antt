@@ -1,11 +1,9 @@
 -- What stands at a place of the file, with places counted from its front.
-use Rattle.std.specs.Prelude.{ℕ, ◌+◌, ◌≤◌, List}
+use Rattle.std.specs.Prelude.{ℕ, ◌+◌, ◌≤◌, List, Ok, Err}
 use Rattle.format.specs.Reading.{limit}
-use Rattle.parsed_map.specs.Fronts.{item_of}
-use Rattle.parsed_map.specs.declared.Item.{Item}
+use Rattle.parsed_map.specs.Fronts.{item_of, ItemRead}
 use Rattle.parsed_map.specs.declared.Item.TheVariants as I
-use Rattle.psbt.specs.declared.Step.{Step}
-use Rattle.psbt.specs.declared.Step.TheVariants.{Stop, Over, One}
+use Rattle.parsed_map.specs.declared.Item.TheVariants.{Over, One}
 
 -- n bytes from a place on are within the limit
 pub record Places (n at : ℕ) : Type 0 where
@@ -17,11 +15,11 @@ pub record InLimit (n : ℕ) : Type 0 where
   pub short : n ≤ limit
 
 -- by the item at the front of what begins at `at`
-unfoldable pub step_by : ℕ → Item → Step
-step_by at (I.Stop e) = Stop e
-step_by at (I.Over u) = Over (at + u)
-step_by at (I.One a l b v) = One (record { key = at + a; klen = l; value = at + b; vlen = v })
+unfoldable pub step_by : ℕ → ItemRead → ItemRead
+step_by at (Err e) = Err e
+step_by at (Ok (I.Over u)) = Ok (Over (at + u))
+step_by at (Ok (I.One e)) = Ok (One (record { key = at + e.key; klen = e.klen; value = at + e.value; vlen = e.vlen }))
 
 -- in a map of kind k whose last key is `last`
-unfoldable pub step_at : List ℕ → List ℕ → ℕ → ℕ → Step
+unfoldable pub step_at : List ℕ → List ℕ → ℕ → ℕ → ItemRead
 step_at s last at k = step_by at (item_of k last s)

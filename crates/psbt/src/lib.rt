@@ -3,6 +3,7 @@
 
 ghost use Rattle.std.specs.Prelude.{◌≡◌, length, take};
 ghost use Rattle.format.specs.Keys.{same};
+ghost use Rattle.format.specs.Rules.{kind_of};
 ghost use Rattle.format.specs.Content.{magic};
 ghost use Rattle.format.specs.Parse.{out, parsed};
 ghost use Rattle.format.specs.Told.{told_with, told_parsed, told_parse};
@@ -10,40 +11,24 @@ ghost use Rattle.psbt.specs.Leans.{maps_read};
 ghost use Rattle.psbt.specs.Steps.{Places, InLimit, step_at};
 
 use entries::{has_map_room, has_pair_room, write_map, write_pair};
-use format::{LIMIT, MapEntry, Order, PairEntry, Parsed, PsbtError};
+use format::{LIMIT, MapEntry, MapKind, PairEntry, Parsed, PsbtError};
 use keys::compare;
 use known_so_far::{Known, Next, after_map, first_map, note_pair};
 use parsed_map::{Item, next_item};
 
-// What stands at a place of the file: a refusal, the map's end with the place behind it, or a pair's entry.
-#[derive(Clone, Copy)]
-pub enum Step {
-    Stop(PsbtError),
-    Over(usize),
-    One(PairEntry),
-}
-
-// One pair or the end of a map of this kind, at the front of the file's remaining part, which begins at `at`.
-fn step_at(rest: &[u8], last: &[u8], at: usize, kind: u8) -> Step
+// One pair or the end of a map of this kind, at the front of the file's remaining part, which begins at `at`; places
+// count from the file's front, and a map's end tells the place behind it.
+fn step_at(rest: &[u8], last: &[u8], at: usize, kind: MapKind) -> Result<Item, PsbtError>
     requires { Places (length rest.now) at }
-    ensures { result ≡ step_at rest.now last.now at kind }
+    ensures { result ≡ step_at rest.now last.now at (kind_of kind) }
 {
-    match next_item(rest, last, kind) {
-        Item::Stop(e) => Step::Stop(e),
-        Item::Over(used) => Step::Over(at + used),
-        Item::One {
-            key,
-            klen,
-            value,
-            vlen,
-        } => {
-            Step::One(PairEntry {
-                key: at + key,
-                klen,
-                value: at + value,
-                vlen,
-            })
-        }
+    match next_item(rest, last, kind)? {
+        Item::Over(used) => Ok(Item::Over(at + used)),
+        Item::One(e) => Ok(Item::One(PairEntry {
+            key: at + e.key,
+            value: at + e.value,
+            ..e
+        })),
     }
 }
 
@@ -52,57 +37,52 @@ fn read_maps(file: &[u8], pairs: &mut [u32], maps: &mut [u32]) -> Parsed
     requires { InLimit (length file.now) }
     ensures { out result pairs.new maps.new ≡ maps_read file.now pairs.old maps.old }
 {
-    let mut answer = Parsed::Refused {
-        error: PsbtError::UnexpectedEof,
-        pairs: 0,
-        maps: 0,
-    };
     let mut known = first_map();
     let mut at: usize = 5;
     let mut p: usize = 0;
     let mut m: usize = 0;
+    // Kept: two loops without a count, since only what is read says whether another map or another pair follows.
     'maps: loop {
         if !has_map_room(maps, m) {
-            answer = Parsed::Refused {
+            break 'maps Parsed::Refused {
                 error: PsbtError::MapsFull,
                 pairs: p,
                 maps: m,
             };
-            break 'maps;
         }
         let first = p;
         let mut la: usize = at;
         let mut le: usize = at;
         loop {
-            let x = step_at(&file[at..], &file[la..le], at, known.kind);
-            match x {
-                Step::Stop(e) => {
-                    answer = Parsed::Refused {
+            let x = match step_at(&file[at..], &file[la..le], at, known.kind) {
+                Ok(x) => x,
+                Err(e) => {
+                    break 'maps Parsed::Refused {
                         error: e,
                         pairs: p,
                         maps: m,
                     };
-                    break 'maps;
                 }
-                Step::Over(to) => {
+            };
+            match x {
+                Item::Over(to) => {
                     at = to;
                     break;
                 }
-                Step::One(entry) => {
+                Item::One(entry) => {
                     if !has_pair_room(pairs, p) {
-                        answer = Parsed::Refused {
+                        break 'maps Parsed::Refused {
                             error: PsbtError::PairsFull,
                             pairs: p,
                             maps: m,
                         };
-                        break 'maps;
                     }
                     write_pair(pairs, p, entry);
                     let value = entry.value;
                     la = entry.key;
                     le = entry.key + entry.klen;
                     at = value + entry.vlen;
-                    p = p + 1;
+                    p += 1;
                     known = note_pair(known, &file[la..le], &file[value..at]);
                 }
             }
@@ -115,31 +95,30 @@ fn read_maps(file: &[u8], pairs: &mut [u32], maps: &mut [u32]) -> Parsed
                 count: p - first,
             },
         );
-        m = m + 1;
-        let t = after_map(known, at < file.len());
-        match t {
-            Next::Stop(e) => {
-                answer = Parsed::Refused {
+        m += 1;
+        let t = match after_map(known, at < file.len()) {
+            Ok(t) => t,
+            Err(e) => {
+                break 'maps Parsed::Refused {
                     error: e,
                     pairs: p,
                     maps: m,
                 };
-                break 'maps;
             }
+        };
+        match t {
             Next::Done(psbt) => {
-                answer = Parsed::Accepted {
+                break 'maps Parsed::Accepted {
                     psbt,
                     pairs: p,
                     maps: m,
                 };
-                break 'maps;
             }
             Next::Map(v) => {
                 known = v;
             }
         }
     }
-    answer
 }
 
 // The five bytes that every file begins with.
@@ -149,11 +128,7 @@ fn has_magic(file: &[u8]) -> bool
     if file.len() < 5 {
         return false;
     }
-    match compare(&file[..5], b"psbt\xff") {
-        Order::Below => false,
-        Order::Same => true,
-        Order::Above => false,
-    }
+    compare(&file[..5], b"psbt\xff").is_eq()
 }
 
 // Parses a file into a pair table and a map table. Each entry is told by the definitions; both tables keep everything

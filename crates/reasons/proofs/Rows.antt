@@ -14,9 +14,6 @@ pub record Passing (s : List ℕ) (n i left : ℕ) : Type 0 where
   pub in_text : i ≤ length s
   pub is : behind left (drop i s) ≡ behind n s
 
-pub passing_first : (s : List ℕ) (n : ℕ) → Passing s n 0 n
-passing_first s n = record { in_text = omega arith; is = refl }
-
 behind_none : (n : ℕ) → behind n [] ≡ []
 unfolding behind rest
 behind_none zero = refl
@@ -31,10 +28,11 @@ unfolding rest
 rest_byte s i h e = rw (drop-cons s i 0 h, ne_eqb (get_or s i 0) 10 e)
 
 module _ (s : List ℕ) (n i left : ℕ) (p : Passing s n i left) where
-  pub passed_all : length s ≤ i → Begins s n i
+  pub passed_all : length s ≤ i → Begins s n (length s)
   passed_all h =
       let e : drop i s ≡ [] = drop_of_length-le s h in
-      record { in_text = p.in_text; is = e ∙ sym (behind_none left) ∙ ap (behind left) (sym e) ∙ p.is }
+      let z : drop (length s) s ≡ [] = drop_of_length-le s (omega arith) in
+      record { in_text = omega arith; is = z ∙ sym (behind_none left) ∙ ap (behind left) (sym e) ∙ p.is }
 
   pub passed : left ≡ 0 → Begins s n i
   unfolding behind
@@ -54,20 +52,19 @@ module _ (s : List ℕ) (n i left : ℕ) (p : Passing s n i left) where
         let back : suc (left - 1) ≡ left = omega (arith, z) in
         subst (Passing s n (i + 1)) back (record { in_text = omega arith; is = rw add-one (ap (behind (left - 1)) (sym (rest_byte s i h e)) ∙ one_left.is) })
 
-pub ruleset starts = (passing_first, passed_all, passed, pass_end, pass_byte)
+pub ruleset starts = (passed, pass_end, pass_byte)
 
 -- the first i bytes are of the first line
 pub record Along (s : List ℕ) (i : ℕ) : Type 0 where
   pub in_text : i ≤ length s
   pub is : take i s ++ front (drop i s) ≡ front s
 
-pub along_first : (s : List ℕ) → Along s 0
-along_first s = record { in_text = omega arith; is = refl }
-
 module _ (s : List ℕ) (i : ℕ) (a : Along s i) where
-  pub ends_text : length s ≤ i → Ends s i
+  pub ends_text : length s ≤ i → Ends s (length s)
   unfolding front
-  ends_text h = record { in_text = a.in_text; is = sym (append-nil (take i s)) ∙ (rw (drop_of_length-le s h) at a.is) }
+  ends_text h =
+      let e : i ≡ length s = omega (arith, a.in_text) in
+      subst (Ends s) e (record { in_text = a.in_text; is = sym (append-nil (take i s)) ∙ (rw (drop_of_length-le s h) at a.is) })
 
   module _ (h : i < length s) where
     pub ends_line : get_or s i 0 ≡ 10 → Ends s i
@@ -83,7 +80,7 @@ module _ (s : List ℕ) (i : ℕ) (a : Along s i) where
               (append_snoc (take i s) (get_or s i 0) _ ∙ (rw (drop-cons s i 0 h, ne_eqb (get_or s i 0) 10 e) at a.is));
         }
 
-pub ruleset ends = (along_first, ends_text, ends_line, along_more)
+pub ruleset ends = (ends_line, along_more)
 
 -- a line's part of the text
 pub line_length : (s : List ℕ) (l : ℕ) → Ends s l → l ≡ length (take l s)

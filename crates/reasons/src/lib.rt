@@ -42,34 +42,28 @@ the transaction is too long
 fn line_start(text: &[u8], n: u8) -> usize
     ensures { Begins text.now n result }
 {
-    let mut i: usize = 0;
     let mut left = n;
-    while i < text.len() {
+    for (i, byte) in text.iter().enumerate() {
         if left == 0 {
             return i;
         }
-        if text[i] == b'\n' {
-            left = left - 1;
-            i = i + 1;
-        } else {
-            i = i + 1;
+        if *byte == b'\n' {
+            left -= 1;
         }
     }
-    i
+    text.len()
 }
 
 // How long the first line is.
 fn line_len(text: &[u8]) -> usize
     ensures { Ends text.now result }
 {
-    let mut i: usize = 0;
-    while i < text.len() {
-        if text[i] == b'\n' {
+    for (i, byte) in text.iter().enumerate() {
+        if *byte == b'\n' {
             return i;
         }
-        i = i + 1;
     }
-    i
+    text.len()
 }
 
 // Line number `n`, without its end.

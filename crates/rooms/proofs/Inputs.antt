@@ -1,7 +1,7 @@
 -- What reads have put at the front of a room: all that the input had, as far as there is room. What writes have taken of a text: its front.
 use Rattle.std.proofs.Common.{◌≡◌, ℕ, ◌+◌, ◌-◌, ◌<◌, ◌≤◌, List, ◌++◌, arith, length, take, drop, sym, ap, ◌∙◌, subst, length-take-le, length-drop, inl, inr}
 use Rattle.std.proofs.lemmas.Bool.{cases_lt}
-use Rattle.std.proofs.lemmas.List.{append-nil, take_all, take-append-le}
+use Rattle.std.proofs.lemmas.List.{append-nil, take_all, take-append-le, drop-drop}
 use Rattle.std.proofs.Math.Seq.{take-append-add, take-add}
 use Rattle.std.specs.Prelude.{Option, None, Some, IfSome, Result, Ok, Err, OnOk, OnErr}
 use Rattle.std.specs.Io.KnownBytes.{Consumes, IsAtEnd, Appends}
@@ -47,12 +47,24 @@ text_written (Ok a) None w w' text m room read out long is whole wrote = tt
 text_written (Ok a) (Some f) w w' text m room read out long is whole wrote =
     subst (Appends w w') (whole ∙ ap text (is ∙ ap (λ (n : ℕ). take n f) (sym long))) wrote
 
--- a write more: u, v and w are what the writer holds before the first, before this one and after it
-pub write_more : (u v w : Option (List ℕ)) (a n : ℕ) (text : List ℕ) → Appends u v (take a text) → Appends v w (take n (take (length text - a) (drop a text)))
-    → Appends u w (take (a + n) text)
-write_more u v w a n text before here =
-    let rest : take (length text - a) (drop a text) ≡ drop a text = take_all _ _ (omega (arith, length-drop a text)) in
-    subst (Appends u w) (ap (λ l. take a text ++ take n l) rest ∙ sym (take-add a n text)) (Appends-trans _ _ _ _ _ before here)
+-- what a writer took of a text is its front, and the rest is what stands behind it: u and v are what the writer holds before and after
+pub record Writing (u v : Option (List ℕ)) (text rest : List ℕ) : Type 0 where
+  pub done : ℕ
+  pub within : done ≤ length text
+  pub rest_is : rest ≡ drop done text
+  pub wrote : Appends u v (take done text)
+
+-- a write more, of n bytes: w is what the writer holds after it
+module _ (u v w : Option (List ℕ)) (text rest : List ℕ) (k : Writing u v text rest) where
+  pub write_more : (n : ℕ) → n ≤ length rest → Appends v w (take n rest) → Writing u w text (take (length rest - n) (drop n rest))
+  write_more n fits here =
+      let left : length rest ≡ length text - k.done = ap length k.rest_is ∙ length-drop k.done text in
+      record {
+        done = k.done + n;
+        within = omega (arith, k.within, left);
+        rest_is = take_all (length rest - n) (drop n rest) (omega (arith, length-drop n rest)) ∙ ap (drop n) k.rest_is ∙ drop-drop n k.done text;
+        wrote = subst (Appends u w) (ap (λ l. take k.done text ++ take n l) k.rest_is ∙ sym (take-add k.done n text)) (Appends-trans _ _ _ _ _ k.wrote here);
+      }
 
 -- a front of such a text that was written is a front of the text of the input
 pub front_written : {A B : Type 0} (r : Result A B) (u w w' : Option (List ℕ)) (text : List ℕ → List ℕ) (m : ℕ) (room read out : List ℕ) → m ≡ length room

@@ -1,7 +1,7 @@
 // What the programs that print a file's text have room for, the memory that they lend, and reading and writing.
 #![tactic(auto)]
 
-ghost use Rattle.std.specs.Prelude.{◌≡◌, ◌≤◌, ◌<◌, ◌+◌, ◌*◌, length, take, ℕ, IfOk, OnOk, OnErr};
+ghost use Rattle.std.specs.Prelude.{◌≡◌, ◌≤◌, ◌<◌, ◌+◌, ◌*◌, length, take, ℕ, List, IfOk, IfSome, OnOk, OnErr};
 ghost use Rattle.std.specs.Io.KnownBytes.{Consumes, IsAtEnd, Appends};
 ghost use Rattle.format.specs.Entries.{pair_words, map_words};
 ghost use Rattle.rooms.specs.Limits.{longest, most_pairs, most_maps};
@@ -63,6 +63,7 @@ pub fn read_full<R: Read>(from: &mut R, room: &mut [u8]) -> io::Result<usize>
     ensures end { IfOk result (λ n. n < length room.new → IsAtEnd (R.remaining from.new)) }
     ensures err { OnErr result ((n : ℕ) × Consumes (R.remaining from.old) (R.remaining from.new) (take n room.new)) }
 {
+    // Kept: no heap, so no `read_to_end`, which fills a `Vec`; `read_exact` doesn't promise what the clauses `end` and `err` do.
     let mut got = 0;
     while got < room.len() {
         let n = from.read(&mut room[got..])?;
@@ -79,13 +80,39 @@ pub fn write_full<W: Write>(to: &mut W, text: &[u8]) -> io::Result<()>
     ensures ok { OnOk result (Appends (W.contents to.old) (W.contents to.new) text.now) }
     ensures err { OnErr result ((n : ℕ) × Appends (W.contents to.old) (W.contents to.new) (take n text.now)) }
 {
-    let mut done = 0;
-    while done < text.len() {
-        let took = to.write(&text[done..])?;
+    // Kept: the library's `write_all` doesn't promise what the clause `err` does.
+    let mut rest = text;
+    while !rest.is_empty() {
+        let took = to.write(rest)?;
         if took == 0 {
             return Err(io::Error::from(ErrorKind::WriteZero));
         }
-        done += took;
+        rest = &rest[took..];
     }
     Ok(())
+}
+
+// Reads a file, until it ends or is too long, has `put` put its text at the front of `out`, and writes that text. The error is that
+// of the read or the write that failed: then a front of the text may have been written, behind a failed read nothing.
+pub fn write_put<R: Read, W: Write, F: Fn(&mut [u8], &[u8]) -> usize>(
+    from: &mut R,
+    to: &mut W,
+    out: &mut [u8],
+    put: F,
+) -> io::Result<()>
+    requires can { (a : _) (b : _) → length a.now ≡ length out.old → F.pre put a b }
+    requires within { (a : _) (b : _) (r : _) (c : _) → length a.now ≡ length out.old → F.post put a b r c → r ≤ length c.now }
+    ensures ok { (text : List ℕ → List ℕ)
+        → ((a : _) (b : _) (r : _) (c : _) → length a.now ≡ length out.old → F.post put a b r c → take r c.now ≡ text b.now)
+        → OnOk result (IfSome (R.remaining from.old)
+        (λ f. Appends (W.contents to.old) (W.contents to.new) (text (take (longest + 1) f)))) }
+    ensures err { (text : List ℕ → List ℕ)
+        → ((a : _) (b : _) (r : _) (c : _) → length a.now ≡ length out.old → F.post put a b r c → take r c.now ≡ text b.now)
+        → OnErr result (IfSome (R.remaining from.old)
+        (λ f. (n : ℕ) × Appends (W.contents to.old) (W.contents to.new) (take n (text (take (longest + 1) f))))) }
+{
+    let mut file = file_room();
+    let got = read_full(from, &mut file)?;
+    let end = put(out, &file[..got]);
+    write_full(to, &out[..end])
 }

@@ -1,4 +1,5 @@
 -- Laws of the script table's entries, one for each way through the functions that judge them.
+use Rattle.std.specs.Ordering.{is_eq}
 use mathlib.Core.Path.{◌≡◌, refl, sym, ◌∙◌, ap}
 use mathlib.Core.Bool.{Bool, true, false, not}
 use mathlib.Core.List.{List, [], ◌∷◌}
@@ -9,11 +10,11 @@ use borrow.Author.Tests.{eq-eqb, ne_eqb, eqb-true, eqb-false}
 use lib.Dec.{eqb}
 use lib.ListN.{length, get_or, take, drop, replicate, length-drop, drop_of_length-le}
 use lib.Seq.{take_all, take-nil}
-use Rattle.format.specs.Keys.{order, is_same_def, same}
+use Rattle.format.specs.Keys.{order, same}
 use Rattle.format.specs.Content.{Found, absent, found, present}
 use Rattle.format.specs.Scripts.{script_entry, taproot}
 use Rattle.format.specs.Transaction.{entry_fits}
-use Rattle.format.specs.declared.Order.{Order}
+use Rattle.std.specs.declared.cmp.Ordering.{Ordering}
 use Rattle.format.proofs.Tests.{no_by}
 use Rattle.format.proofs.Keys.{same_is, same_self}
 use Rattle.scripts.specs.Tables.{entry_at, blank, filled, fits_by}
@@ -71,9 +72,9 @@ tap_length s l = rw (ne_eqb (length s) 34 l)
 pub ruleset taproots = (tap_is, tap_other, tap_length)
 
 -- an entry of zero bytes
-pub blank_by : (e : List ℕ) (o : Order) (b : Bool) → o ≡ order e (replicate script_entry 0) → b ≡ is_same_def o → b ≡ blank e
+pub blank_by : (e : List ℕ) (o : Ordering) (b : Bool) → o ≡ order e (replicate script_entry 0) → b ≡ is_eq o → b ≡ blank e
 unfolding blank same
-blank_by e o b h q = q ∙ ap is_same_def h
+blank_by e o b h q = q ∙ ap is_eq h
 
 -- an entry with a script
 pub filled_none : (e : List ℕ) → length e ≡ 0 → not (eqb (length e) 0) ≡ filled e

@@ -30,7 +30,7 @@ pub fn entry_at(scripts: &[u8], i: u64) -> &[u8]
 pub fn is_taproot(script: &[u8]) -> bool
     ensures { result ≡ taproot script.now }
 {
-    script.len() == SCRIPT_LEN && (script[0] == 0x51 && script[1] == 0x20)
+    script.len() == SCRIPT_LEN && script[0] == 0x51 && script[1] == 0x20
 }
 
 // An entry without a script.
@@ -38,14 +38,14 @@ fn is_blank(entry: &[u8]) -> bool
     ensures { result ≡ blank entry.now }
 {
     let zeros = [0u8; ENTRY];
-    keys::is_same(keys::compare(entry, &zeros))
+    keys::compare(entry, &zeros).is_eq()
 }
 
 // An entry with a script that is set.
 fn is_filled(entry: &[u8]) -> bool
     ensures { result ≡ filled entry.now }
 {
-    entry.len() != 0 && (entry[0] == 1 && is_taproot(&entry[1..]))
+    !entry.is_empty() && entry[0] == 1 && is_taproot(&entry[1..])
 }
 
 // An entry is one that the setter writes for an output with a script, or for one without.

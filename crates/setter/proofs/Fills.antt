@@ -1,4 +1,5 @@
 -- Laws of writing: one entry, all entries one after the other, and the table that they leave.
+use Rattle.std.proofs.Common.{Option, Some, None}
 use mathlib.Core.Path.{◌≡◌, refl, sym, ◌∙◌, ap, ap₂}
 use mathlib.Core.Bool.{Bool, true, false}
 use mathlib.Core.List.{List, [], ◌∷◌, ◌++◌}
@@ -12,14 +13,12 @@ use Rattle.format.specs.Scripts.{script_in, taproot, named, entry_for, set_out_d
 use Rattle.format.specs.declared.PsbtError.TheVariants.{NoRoom}
 use Rattle.format.specs.declared.State.{State}
 use Rattle.format.specs.declared.Assignment.{Assignment}
-use Rattle.format.specs.declared.ScriptsSet.TheVariants.{Refused, Done}
+use Rattle.std.specs.Prelude.{Ok, Err}
 use Rattle.format.proofs.Tests.{and_left, and_right}
 use Rattle.writer.specs.Writes.{wrote}
 use Rattle.writer.proofs.Writes.{wrote_append, wrote_front, wrote_long, wrote_none}
-use Rattle.setter.specs.Records.{records, lies, sound, first_of}
+use Rattle.setter.specs.Records.{lies, sound, first_of}
 use Rattle.setter.specs.Fills.{entries_from, state_after, filled_for, Giving, Sound, Ready}
-use Rattle.setter.specs.declared.Naming.{Naming}
-use Rattle.setter.specs.declared.Naming.TheVariants.{Nobody, By}
 
 -- what all pass, those that are kept pass
 every_keep : (p : Assignment → Bool) (b : Bool) (x : Assignment) (xs : List Assignment) → p x ≡ true → every p xs ≡ true → every p (keep_if b x xs) ≡ true
@@ -50,32 +49,32 @@ unfolding entry_for every
 entry_by_lem buffer [] h = refl
 entry_by_lem buffer (a ∷ xs) h = ap suc (sound_long buffer a (and_left (sound buffer a) (every (sound buffer) xs) h))
 
-pub named_sound : (buffer l : List ℕ) (i : ℕ) → Sound buffer l → every (sound buffer) (named i (records l)) ≡ true
+named_sound : (buffer : List ℕ) (xs : List Assignment) (i : ℕ) → Sound buffer xs → every (sound buffer) (named i xs) ≡ true
 unfolding named
-named_sound buffer l i k = every_only (sound buffer) (λ a. eqb a.output i) (records l) k.all
+named_sound buffer xs i k = every_only (sound buffer) (λ a. eqb a.output i) xs k.all
 
-entry_long : (buffer l : List ℕ) (i : ℕ) → Sound buffer l → length (entry_for buffer (named i (records l))) ≡ 35
-entry_long buffer l i k = entry_by_lem buffer (named i (records l)) (named_sound buffer l i k)
+entry_long : (buffer : List ℕ) (xs : List Assignment) (i : ℕ) → Sound buffer xs → length (entry_for buffer (named i xs)) ≡ 35
+entry_long buffer xs i k = entry_by_lem buffer (named i xs) (named_sound buffer xs i k)
 
-entries_long : (buffer l : List ℕ) (i n : ℕ) → Sound buffer l → length (entries_from buffer (records l) i n) ≡ 35 * n
+entries_long : (buffer : List ℕ) (xs : List Assignment) (i n : ℕ) → Sound buffer xs → length (entries_from buffer xs i n) ≡ 35 * n
 unfolding entries_from
-entries_long buffer l i zero k = refl
-entries_long buffer l i (suc n) k =
-    length-append (entry_for buffer (named i (records l))) (entries_from buffer (records l) (i + 1) n)
-    ∙ (omega (arith, entry_long buffer l i k, entries_long buffer l (i + 1) n k))
+entries_long buffer xs i zero k = refl
+entries_long buffer xs i (suc n) k =
+    length-append (entry_for buffer (named i xs)) (entries_from buffer xs (i + 1) n)
+    ∙ (omega (arith, entry_long buffer xs i k, entries_long buffer xs (i + 1) n k))
 
 -- the entry of an output, by the first assignment that names it
-nobody_entry : (buffer : List ℕ) (xs : List Assignment) → first_of xs ≡ Nobody → entry_for buffer xs ≡ replicate 35 0
+nobody_entry : (buffer : List ℕ) (xs : List Assignment) → first_of xs ≡ None → entry_for buffer xs ≡ replicate 35 0
 unfolding entry_for first_of
 nobody_entry buffer [] e = refl
 nobody_entry buffer (a ∷ xs) e = let z : ◌≡◌ {A = ℕ} 0 1 = cc in absurd (omega arith)
 
-by_entry : (buffer : List ℕ) (xs : List Assignment) (a : Assignment) → first_of xs ≡ By a → entry_for buffer xs ≡ 1 ∷ script_in buffer a
+by_entry : (buffer : List ℕ) (xs : List Assignment) (a : Assignment) → first_of xs ≡ Some a → entry_for buffer xs ≡ 1 ∷ script_in buffer a
 unfolding entry_for first_of
 by_entry buffer [] a e = let z : ◌≡◌ {A = ℕ} 0 1 = cc in absurd (omega arith)
 by_entry buffer (x ∷ xs) a e = let k : x ≡ a = cc in rw k
 
-by_sound : (p : Assignment → Bool) (xs : List Assignment) (a : Assignment) → every p xs ≡ true → first_of xs ≡ By a → p a ≡ true
+by_sound : (p : Assignment → Bool) (xs : List Assignment) (a : Assignment) → every p xs ≡ true → first_of xs ≡ Some a → p a ≡ true
 unfolding every first_of
 by_sound p [] a h e = let z : ◌≡◌ {A = ℕ} 0 1 = cc in absurd (omega arith)
 by_sound p (x ∷ xs) a h e = let k : x ≡ a = cc in rw k at (and_left (p x) (every p xs) h)
@@ -94,43 +93,43 @@ module _ (T : List ℕ) (at : ℕ) (buffer : List ℕ) (a : Assignment) (k : Giv
 
 pub ruleset puts_given = (given_lies, given_room, given_is)
 
-module _ (T : List ℕ) (i : ℕ) (buffer l : List ℕ) (k : Ready T (i * 35 + 35) buffer l) where
-  module _ (o : Naming) (is : o ≡ first_of (named i (records l))) where
-    pub entry_none : o ≡ Nobody → (T₁ : List ℕ) → T₁ ≡ wrote T (i * 35) (replicate 35 0) → T₁ ≡ wrote T (i * 35) (entry_for buffer (named i (records l)))
-    entry_none e T₁ w = w ∙ ap (wrote T (i * 35)) (sym (nobody_entry buffer (named i (records l)) (sym is ∙ e)))
+module _ (T : List ℕ) (i : ℕ) (buffer : List ℕ) (xs : List Assignment) (k : Ready T (i * 35 + 35) buffer xs) where
+  module _ (o : Option Assignment) (is : o ≡ first_of (named i xs)) where
+    pub entry_none : o ≡ None → (T₁ : List ℕ) → T₁ ≡ wrote T (i * 35) (replicate 35 0) → T₁ ≡ wrote T (i * 35) (entry_for buffer (named i xs))
+    entry_none e T₁ w = w ∙ ap (wrote T (i * 35)) (sym (nobody_entry buffer (named i xs) (sym is ∙ e)))
 
-    module _ (a : Assignment) (e : o ≡ By a) where
+    module _ (a : Assignment) (e : o ≡ Some a) where
       pub entry_giving : Giving T (i * 35) buffer a
-      entry_giving = record { room = k.room; given = by_sound (sound buffer) (named i (records l)) a (named_sound buffer l i k.sounds) (sym is ∙ e) }
+      entry_giving = record { room = k.room; given = by_sound (sound buffer) (named i xs) a (named_sound buffer xs i k.sounds) (sym is ∙ e) }
 
-      pub entry_is : (T₁ : List ℕ) → T₁ ≡ wrote T (i * 35) (1 ∷ script_in buffer a) → T₁ ≡ wrote T (i * 35) (entry_for buffer (named i (records l)))
-      entry_is T₁ w = w ∙ ap (wrote T (i * 35)) (sym (by_entry buffer (named i (records l)) a (sym is ∙ e)))
+      pub entry_is : (T₁ : List ℕ) → T₁ ≡ wrote T (i * 35) (1 ∷ script_in buffer a) → T₁ ≡ wrote T (i * 35) (entry_for buffer (named i xs))
+      entry_is T₁ w = w ∙ ap (wrote T (i * 35)) (sym (by_entry buffer (named i xs) a (sym is ∙ e)))
 
 pub ruleset puts_entry = (entry_none, entry_giving, entry_is)
 
 -- the entries still to be written, written from here, give the whole
-pub record Filling (T₀ : List ℕ) (n : ℕ) (l buffer T : List ℕ) (i : ℕ) : Type 0 where
+pub record Filling (T₀ : List ℕ) (n : ℕ) (xs : List Assignment) (buffer T : List ℕ) (i : ℕ) : Type 0 where
   pub long : length T ≡ length T₀
   pub less : i ≤ n
-  pub is : wrote T (i * 35) (entries_from buffer (records l) i (n - i)) ≡ wrote T₀ 0 (entries_from buffer (records l) 0 n)
+  pub is : wrote T (i * 35) (entries_from buffer xs i (n - i)) ≡ wrote T₀ 0 (entries_from buffer xs 0 n)
 
-pub fill_first : (T : List ℕ) (n : ℕ) (l buffer : List ℕ) → Filling T n l buffer T 0
-fill_first T n l buffer = record { long = refl; less = omega arith; is = let q : n - 0 ≡ n = omega arith in rw q }
+pub fill_first : (T : List ℕ) (n : ℕ) (xs : List Assignment) (buffer : List ℕ) → Filling T n xs buffer T 0
+fill_first T n xs buffer = record { long = refl; less = omega arith; is = let q : n - 0 ≡ n = omega arith in rw q }
 
-module _ (T₀ : List ℕ) (n : ℕ) (l buffer T : List ℕ) (i : ℕ) (f : Filling T₀ n l buffer T i) where
-  pub fill_done : n ≤ i → T ≡ wrote T₀ 0 (entries_from buffer (records l) 0 n)
+module _ (T₀ : List ℕ) (n : ℕ) (xs : List Assignment) (buffer T : List ℕ) (i : ℕ) (f : Filling T₀ n xs buffer T i) where
+  pub fill_done : n ≤ i → T ≡ wrote T₀ 0 (entries_from buffer xs 0 n)
   unfolding entries_from
   fill_done h =
       let q : n - i ≡ 0 = omega arith in
-      sym (wrote_none T (i * 35)) ∙ sym (ap (λ (m : ℕ). wrote T (i * 35) (entries_from buffer (records l) i m)) q) ∙ f.is
+      sym (wrote_none T (i * 35)) ∙ sym (ap (λ (m : ℕ). wrote T (i * 35) (entries_from buffer xs i m)) q) ∙ f.is
 
-  module _ (k : Ready T₀ (n * 35) buffer l) (h : i < n) where
-    pub fill_more : (T₁ : List ℕ) → T₁ ≡ wrote T (i * 35) (entry_for buffer (named i (records l))) → Filling T₀ n l buffer T₁ (i + 1)
+  module _ (k : Ready T₀ (n * 35) buffer xs) (h : i < n) where
+    pub fill_more : (T₁ : List ℕ) → T₁ ≡ wrote T (i * 35) (entry_for buffer (named i xs)) → Filling T₀ n xs buffer T₁ (i + 1)
     unfolding entries_from
     fill_more T₁ w =
-        let e : List ℕ = entry_for buffer (named i (records l)) in
-        let r : List ℕ = entries_from buffer (records l) (i + 1) (n - (i + 1)) in
-        let p : (i + 1) * 35 ≡ i * 35 + length e = omega (arith, entry_long buffer l i k.sounds) in
+        let e : List ℕ = entry_for buffer (named i xs) in
+        let r : List ℕ = entries_from buffer xs (i + 1) (n - (i + 1)) in
+        let p : (i + 1) * 35 ≡ i * 35 + length e = omega (arith, entry_long buffer xs i k.sounds) in
         let q : n - i ≡ suc (n - (i + 1)) = omega arith in
         record {
           long = wrote_long T T₁ (i * 35) e w ∙ f.long;
@@ -138,28 +137,28 @@ module _ (T₀ : List ℕ) (n : ℕ) (l buffer T : List ℕ) (i : ℕ) (f : Fill
           is =
               ap₂ (λ (x : List ℕ) (j : ℕ). wrote x j r) w p
               ∙ wrote_append T (i * 35) e r
-              ∙ sym (ap (λ (m : ℕ). wrote T (i * 35) (entries_from buffer (records l) i m)) q)
+              ∙ sym (ap (λ (m : ℕ). wrote T (i * 35) (entries_from buffer xs i m)) q)
               ∙ f.is;
         }
 
 pub ruleset fillings = (fill_first, fill_done, fill_more)
 
 -- the table, by whether it has room
-module _ (n : ℕ) (buffer : List ℕ) (t : State) (T l : List ℕ) where
-  pub filled_none : length T / 35 < n → set_out_def (Refused NoRoom) T ≡ filled_for n buffer t T (records l)
+module _ (n : ℕ) (buffer : List ℕ) (t : State) (T : List ℕ) (xs : List Assignment) where
+  pub filled_none : length T / 35 < n → set_out_def (Err NoRoom) T ≡ filled_for n buffer t T xs
   unfolding filled_for
   filled_none h = rw (lt-leb (35 * n) (length T) (omega arith))
 
-  module _ (k : Sound buffer l) (h : n ≤ length T / 35) where
-    pub filled_is : (T₁ : List ℕ) (r : State) → T₁ ≡ wrote T 0 (entries_from buffer (records l) 0 n) → r ≡ state_after t n
-        → set_out_def (Done r) T₁ ≡ filled_for n buffer t T (records l)
+  module _ (k : Sound buffer xs) (h : n ≤ length T / 35) where
+    pub filled_is : (T₁ : List ℕ) (r : State) → T₁ ≡ wrote T 0 (entries_from buffer xs 0 n) → r ≡ state_after t n
+        → set_out_def (Ok r) T₁ ≡ filled_for n buffer t T xs
     unfolding filled_for
     filled_is T₁ r w e =
         let m : 35 * n ≤ length T = omega arith in
-        let x : length (entries_from buffer (records l) 0 n) ≡ 35 * n = entries_long buffer l 0 n k in
-        let y : T₁ ≡ entries_from buffer (records l) 0 n ++ drop (35 * n) T =
-        w ∙ wrote_front T (entries_from buffer (records l) 0 n) (omega arith) ∙ ap (λ (j : ℕ). entries_from buffer (records l) 0 n ++ drop j T) x
+        let x : length (entries_from buffer xs 0 n) ≡ 35 * n = entries_long buffer xs 0 n k in
+        let y : T₁ ≡ entries_from buffer xs 0 n ++ drop (35 * n) T =
+        w ∙ wrote_front T (entries_from buffer xs 0 n) (omega arith) ∙ ap (λ (j : ℕ). entries_from buffer xs 0 n ++ drop j T) x
         in
-        rw (le-leb (35 * n) (length T) m) (ap₂ (λ (u : State) (v : List ℕ). set_out_def (Done u) v) e y)
+        rw (le-leb (35 * n) (length T) m) (ap₂ (λ (u : State) (v : List ℕ). set_out_def (Ok u) v) e y)
 
 pub ruleset fills = (filled_none, filled_is)

@@ -1,12 +1,11 @@
 -- What the setter writes, by how many outputs there are, and what writing asks.
-use Rattle.std.specs.Prelude.{ℕ, zero, suc, ◌+◌, ◌*◌, ◌≤◌, ◌≡◌, true, List, [], ◌++◌, length, drop, leb, eqb}
+use Rattle.std.specs.Prelude.{ℕ, zero, suc, ◌+◌, ◌*◌, ◌≤◌, ◌≡◌, true, List, [], ◌++◌, length, drop, leb, eqb, Ok, Err}
 use Rattle.format.specs.Tests.{pick, every}
 use Rattle.format.specs.Scripts.{named, script_entry, entry_for, SetOut, set_out_def}
 use Rattle.format.specs.declared.PsbtError.TheVariants.{NoRoom}
 use Rattle.format.specs.declared.State.{State}
 use Rattle.format.specs.declared.Assignment.{Assignment}
-use Rattle.format.specs.declared.ScriptsSet.TheVariants.{Refused, Done}
-use Rattle.setter.specs.Records.{records, sound}
+use Rattle.setter.specs.Records.{sound}
 
 -- the entries of n outputs from number i on
 unfoldable pub entries_from : List ℕ → List Assignment → ℕ → ℕ → List ℕ
@@ -21,19 +20,19 @@ state_after t n = pick (eqb n 0) t (record { set = true; written = t.written })
 unfoldable pub filled_for : ℕ → List ℕ → State → List ℕ → List Assignment → SetOut
 filled_for n buffer t T xs =
     pick (leb (script_entry * n) (length T))
-    (set_out_def (Done (state_after t n)) (entries_from buffer xs 0 n ++ drop (script_entry * n) T))
-    (set_out_def (Refused NoRoom) T)
+    (set_out_def (Ok (state_after t n)) (entries_from buffer xs 0 n ++ drop (script_entry * n) T))
+    (set_out_def (Err NoRoom) T)
 
 -- an assignment's script is a taproot script in the buffer, and a table has room for its entry at a place
 pub record Giving (T : List ℕ) (at : ℕ) (buffer : List ℕ) (a : Assignment) : Type 0 where
   pub room : at + 35 ≤ length T
   pub given : sound buffer a ≡ true
 
--- the scripts of a list of numbers are taproot scripts that lie in the buffer
-pub record Sound (buffer l : List ℕ) : Type 0 where
-  pub all : every (sound buffer) (records l) ≡ true
+-- the scripts of some assignments are taproot scripts that lie in the buffer
+pub record Sound (buffer : List ℕ) (xs : List Assignment) : Type 0 where
+  pub all : every (sound buffer) xs ≡ true
 
 -- and a table has room up to an end
-pub record Ready (T : List ℕ) (end : ℕ) (buffer l : List ℕ) : Type 0 where
+pub record Ready (T : List ℕ) (end : ℕ) (buffer : List ℕ) (xs : List Assignment) : Type 0 where
   pub room : end ≤ length T
-  pub sounds : Sound buffer l
+  pub sounds : Sound buffer xs

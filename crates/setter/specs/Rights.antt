@@ -12,6 +12,10 @@ use Rattle.all_maps_fit.specs.Alls.{AllFit}
 unfoldable pub served_at : List Assignment → ℕ → Out → Bool
 served_at xs i o = eqb (length (named i xs)) (pick (present o.script) 0 1)
 
+-- some assignments as they are given, by whether their list ends behind the last of them
+abbrev pub given_by : Bool → List Assignment → Given
+given_by complete xs = pick complete (whole xs) cut_short
+
 -- the assignments that are given are whole, may still be set, and are right
 unfoldable pub right_given : List Out → List ℕ → State → Given → Bool
 right_given outs buffer t cut_short = false

@@ -7,8 +7,8 @@ ghost use Rattle.format.specs.Told.{told_listing, told_looked};
 
 use crate::{PROOF_LEN, scan_lookup};
 use format::{
-    Listing, Looked, PSBT_IN_SP_DLEQ, PSBT_IN_SP_ECDH_SHARE, PSBT_IN_SP_SPEND_BIP32_DERIVATION,
-    PUBKEY_LEN, Psbt,
+    Listed, PSBT_IN_SP_DLEQ, PSBT_IN_SP_ECDH_SHARE, PSBT_IN_SP_SPEND_BIP32_DERIVATION, PUBKEY_LEN,
+    Part, Psbt, PsbtError,
 };
 
 // The share of a scan key.
@@ -19,19 +19,12 @@ pub fn get_sp_ecdh_share(
     psbt: Psbt,
     i: u64,
     scan_key: &[u8],
-) -> Looked
+) -> Result<Option<Part>, PsbtError>
     ensures { told_looked result ≡ told_looked (input_share file.now scan_key.now
         (held_input file.now pairs.now maps.now psbt i)) }
 {
-    let fit = fitness::fit_input(file, pairs, maps, psbt, i);
-    scan_lookup(
-        file,
-        pairs,
-        fit,
-        PSBT_IN_SP_ECDH_SHARE,
-        PUBKEY_LEN,
-        scan_key,
-    )
+    let m = fitness::fit_input(file, pairs, maps, psbt, i)?;
+    scan_lookup(file, pairs, m, PSBT_IN_SP_ECDH_SHARE, PUBKEY_LEN, scan_key)
 }
 
 // The proof of a scan key.
@@ -42,16 +35,22 @@ pub fn get_sp_dleq_proof(
     psbt: Psbt,
     i: u64,
     scan_key: &[u8],
-) -> Looked
+) -> Result<Option<Part>, PsbtError>
     ensures { told_looked result ≡ told_looked (input_proof file.now scan_key.now
         (held_input file.now pairs.now maps.now psbt i)) }
 {
-    let fit = fitness::fit_input(file, pairs, maps, psbt, i);
-    scan_lookup(file, pairs, fit, PSBT_IN_SP_DLEQ, PROOF_LEN, scan_key)
+    let m = fitness::fit_input(file, pairs, maps, psbt, i)?;
+    scan_lookup(file, pairs, m, PSBT_IN_SP_DLEQ, PROOF_LEN, scan_key)
 }
 
 // The pairs that hold shares.
-pub fn sp_ecdh_shares(file: &[u8], pairs: &[u32], maps: &[u32], psbt: Psbt, i: u64) -> Listing
+pub fn sp_ecdh_shares(
+    file: &[u8],
+    pairs: &[u32],
+    maps: &[u32],
+    psbt: Psbt,
+    i: u64,
+) -> Result<Listed, PsbtError>
     ensures { told_listing result ≡ told_listing (list file.now 0x1d
         (held_input file.now pairs.now maps.now psbt i)) }
 {
@@ -59,7 +58,13 @@ pub fn sp_ecdh_shares(file: &[u8], pairs: &[u32], maps: &[u32], psbt: Psbt, i: u
 }
 
 // The pairs that hold proofs.
-pub fn sp_dleq_proofs(file: &[u8], pairs: &[u32], maps: &[u32], psbt: Psbt, i: u64) -> Listing
+pub fn sp_dleq_proofs(
+    file: &[u8],
+    pairs: &[u32],
+    maps: &[u32],
+    psbt: Psbt,
+    i: u64,
+) -> Result<Listed, PsbtError>
     ensures { told_listing result ≡ told_listing (list file.now 0x1e
         (held_input file.now pairs.now maps.now psbt i)) }
 {
@@ -73,7 +78,7 @@ pub fn sp_spend_bip32_derivations(
     maps: &[u32],
     psbt: Psbt,
     i: u64,
-) -> Listing
+) -> Result<Listed, PsbtError>
     ensures { told_listing result ≡ told_listing (list file.now 0x1f
         (held_input file.now pairs.now maps.now psbt i)) }
 {

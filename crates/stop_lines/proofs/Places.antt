@@ -20,10 +20,9 @@ use Rattle.format.specs.declared.PsbtError.{PsbtError}
 use Rattle.format.specs.declared.PsbtError.TheVariants.{InvalidMagic, MissingCounts, NotAllowed, TooLong}
 use Rattle.format.specs.declared.MapEntry.{MapEntry}
 use Rattle.format.specs.declared.Psbt.{Psbt}
-use Rattle.format.specs.declared.Size.{Size}
-use Rattle.format.specs.declared.Size.TheVariants.{Bad, Read}
-use Rattle.format.specs.declared.Looked.{Looked}
-use Rattle.format.specs.declared.Looked.TheVariants.{Refused, Absent, At}
+use Rattle.format.specs.declared.CompactSize.{CompactSize}
+use Rattle.format.specs.Answers.{Looked, Size}
+use Rattle.std.specs.Prelude.{Ok, Err, Some, None}
 use Rattle.format.proofs.Tests.{pick_yes}
 use Rattle.entries.specs.Words.{map_count, no_map, map_at, map_from}
 use Rattle.entries.proofs.Tables.{map_words_lem}
@@ -41,9 +40,9 @@ use Rattle.stop_lines.specs.declared.Place.TheVariants.{Nowhere, Global, GlobalE
 
 -- one of two refusals
 module _ (e a b : PsbtError) (n x : ℕ) (is : n ≡ number_of e) (q : x ≡ number_of a) where
-  pub one_first : n ≡ x → true ≡ one_of e a b
+  pub one_first : n ≡ x → eqb n x ≡ one_of e a b
   unfolding one_of
-  one_first h = sym (rw (eq-eqb (number_of e) (number_of a) (sym is ∙ h ∙ q)))
+  one_first h = eq-eqb n x h ∙ sym (rw (eq-eqb (number_of e) (number_of a) (sym is ∙ h ∙ q)))
 
   pub one_second : (n ≡ x → ⊥) → (y : ℕ) → y ≡ number_of b → eqb n y ≡ one_of e a b
   unfolding one_of
@@ -89,24 +88,12 @@ module _ (M : List ℕ) (m n : ℕ) (some : m ≡ 0 → ⊥) (q : n ≡ map_coun
 
 pub ruleset befores = (before_none, before_past, before_in, before_fits, before_last)
 
--- the pairs of this one
-module _ (M : List ℕ) (p m b : ℕ) (is : b ≡ pairs_before M m) where
-  pub passed_none : p < b → 0 ≡ pairs_passed M p m
-  unfolding pairs_passed
-  passed_none h = omega arith
-
-  pub passed_some : p - b ≡ pairs_passed M p m
-  unfolding pairs_passed
-  passed_some = ap (λ (x : ℕ). p - x) is
-
-pub ruleset passing = (passed_none, passed_some)
-
 -- a count field, by the part of the file that its lookup hands back
 part_counts : (f : List ℕ) (y : Looked) → size_value (size (part f y)) ≡ counted (found_at f y)
 unfolding part counted found_at size size_value
-part_counts f (Refused e) = refl
-part_counts f Absent = refl
-part_counts f (At s n) = refl
+part_counts f (Err e) = refl
+part_counts f (Ok None) = refl
+part_counts f (Ok (Some p)) = refl
 
 global_held : (f P M : List ℕ) (s : Psbt) → held f P M s 0 ≡ held_by_def f (pair_entries P) (map_entries M)
 unfolding held maps_reported
@@ -120,13 +107,13 @@ module _ (f P M v : List ℕ) (t : ℕ) (s : Psbt) (z : Size) (is : v ≡ part f
       ∙ part_counts f (look f t [] (held f P M s 0))
       ∙ ap counted (look_find f t [] (held f P M s 0) ∙ ap (λ (h : Held). find_in (key_of t []) (view_of f h)) (global_held f P M s))
 
-  pub count_none : (e : PsbtError) → z ≡ Bad e → 0 ≡ count_shown f P M t
+  pub count_none : (e : PsbtError) → z ≡ Err e → 0 ≡ count_shown f P M t
   unfolding size_value
   count_none e w = sym (ap size_value w) ∙ count_is
 
-  pub count_read : (n u : ℕ) → z ≡ Read n u → n ≡ count_shown f P M t
+  pub count_read : (r : CompactSize) → z ≡ Ok r → r.value ≡ count_shown f P M t
   unfolding size_value
-  count_read n u w = sym (ap size_value w) ∙ count_is
+  count_read r w = sym (ap size_value w) ∙ count_is
 
 pub ruleset counts = (count_none, count_read)
 

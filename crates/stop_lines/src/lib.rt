@@ -6,7 +6,7 @@ ghost use Rattle.text.specs.Spots.{spot, lay};
 ghost use Rattle.stop_lines.specs.Stops.{one_of, pairs_before, pairs_passed, count_shown, behind_global, place_at, stopped, after_pairs, numbered_line};
 ghost use Rattle.stop_lines.specs.Stops.{stop_line};
 
-use format::{Maybe, PSBT_GLOBAL_INPUT_COUNT, PSBT_GLOBAL_OUTPUT_COUNT, Psbt, PsbtError, Size};
+use format::{PSBT_GLOBAL_INPUT_COUNT, PSBT_GLOBAL_OUTPUT_COUNT, Psbt, PsbtError};
 use text::{put, put_decimal};
 
 // Where a parse stopped: nothing was read; in the global map or at its end; in an input or an output; behind the last map.
@@ -26,21 +26,14 @@ fn is_one_of(e: PsbtError, a: PsbtError, b: PsbtError) -> bool
     ensures { result ≡ one_of e a b }
 {
     let n = e.number();
-    if n == a.number() {
-        true
-    } else {
-        n == b.number()
-    }
+    n == a.number() || n == b.number()
 }
 
 // How many pairs the maps before map number `m` have.
 fn pairs_before(maps: &[u32], m: usize) -> usize
     ensures { result ≡ pairs_before maps.now m }
 {
-    if m == 0 {
-        return 0;
-    }
-    if entries::map_count(maps) < m {
+    if m == 0 || entries::map_count(maps) < m {
         return 0;
     }
     let e = entries::map_entry(maps, m - 1);
@@ -51,11 +44,7 @@ fn pairs_before(maps: &[u32], m: usize) -> usize
 fn pairs_passed(maps: &[u32], p: usize, m: usize) -> usize
     ensures { result ≡ pairs_passed maps.now p m }
 {
-    let before = pairs_before(maps, m);
-    if p < before {
-        return 0;
-    }
-    p - before
+    p.saturating_sub(pairs_before(maps, m))
 }
 
 // What a count field of the global map says, 0 where the tables show none.
@@ -64,15 +53,15 @@ fn count_shown(file: &[u8], pairs: &[u32], maps: &[u32], key_type: u8) -> u64
 {
     let unknown = Psbt {
         tx_version: 0,
-        fallback_locktime: Maybe::Absent,
-        tx_modifiable: Maybe::Absent,
+        fallback_locktime: None,
+        tx_modifiable: None,
         inputs: 0,
         outputs: 0,
     };
     let value = lookup::get_part(file, pairs, maps, unknown, 0, key_type, &file[..0]);
     match wire::read_size(value) {
-        Size::Bad(_) => 0,
-        Size::Read { value, used: _ } => value,
+        Ok(size) => size.value,
+        Err(_) => 0,
     }
 }
 

@@ -1,4 +1,1 @@
-pub mod Asks
 pub mod Numbers
-pub mod Tallies
-pub mod Holds

@@ -79,9 +79,6 @@ pub record Laying (at : ℕ) (D₀ S : List ℕ) (to : ℕ) (D : List ℕ) (j : 
   pub long : length D ≡ length D₀
   pub is : lay (spot to D) (drop j S) ≡ lay (spot at D₀) S
 
-pub lay_first : (at : ℕ) (D S : List ℕ) → Laying at D S at D 0
-lay_first at D S = record { long = refl; is = refl }
-
 module _ (at : ℕ) (D₀ S : List ℕ) (to : ℕ) (D : List ℕ) (j : ℕ) (k : Laying at D₀ S to D j) where
   pub lay_more : (to' : ℕ) (D' : List ℕ) → j < length S → length D' ≡ length D → spot to' D' ≡ lay_byte (spot to D) (get_or S j 0)
       → Laying at D₀ S to' D' (j + 1)
@@ -96,15 +93,12 @@ module _ (at : ℕ) (D₀ S : List ℕ) (to : ℕ) (D : List ℕ) (j : ℕ) (k :
   unfolding lay
   lay_done h = sym (ap (lay (spot to D)) (drop_of_length-le S h)) ∙ k.is
 
-pub ruleset lays = (lay_first, lay_more, lay_done)
+pub ruleset lays = (lay_more, lay_done)
 
 -- the same of bytes in hex
 pub record Hexing (at : ℕ) (D₀ S : List ℕ) (to : ℕ) (D : List ℕ) (j : ℕ) : Type 0 where
   pub long : length D ≡ length D₀
   pub is : lay (spot to D) (hex (drop j S)) ≡ lay (spot at D₀) (hex S)
-
-pub hex_first : (at : ℕ) (D S : List ℕ) → Hexing at D S at D 0
-hex_first at D S = record { long = refl; is = refl }
 
 module _ (at : ℕ) (D₀ S : List ℕ) (to : ℕ) (D : List ℕ) (j : ℕ) (k : Hexing at D₀ S to D j) where
   pub hex_more : (to' : ℕ) (D' : List ℕ) → j < length S → length D' ≡ length D → spot to' D' ≡ lay (spot to D) (hex_byte (get_or S j 0))
@@ -125,7 +119,7 @@ module _ (at : ℕ) (D₀ S : List ℕ) (to : ℕ) (D : List ℕ) (j : ℕ) (k :
   unfolding lay hex
   hex_done h = sym (ap (λ (l : List ℕ). lay (spot to D) (hex l)) (drop_of_length-le S h)) ∙ k.is
 
-pub ruleset hexes = (hex_first, hex_more, hex_done)
+pub ruleset hexes = (hex_more, hex_done)
 
 -- a byte's two digits
 pub hex_byte_lem : (s t u : Spot) (b d e : ℕ) → d ≡ digit (b / 16) → e ≡ digit (b % 16) → t ≡ lay_byte s d → u ≡ lay_byte t e → u ≡ lay s (hex_byte b)

@@ -29,10 +29,8 @@ pub fn put(out: &mut [u8], at: usize, text: &[u8]) -> usize
     ensures { spot result out.new ≡ lay (spot at out.old) text.now }
 {
     let mut to = at;
-    let mut i: usize = 0;
-    while i < text.len() {
-        to = put_byte(out, to, text[i]);
-        i = i + 1;
+    for byte in text {
+        to = put_byte(out, to, *byte);
     }
     to
 }
@@ -46,6 +44,7 @@ fn digit(d: u8) -> u8
 }
 
 // A byte in two hex digits, the higher first.
+// Kept: `write!` promises the bytes only where it succeeds, and no clause says that it does into a lent buffer with room.
 pub fn put_hex_byte(out: &mut [u8], at: usize, byte: u8) -> usize
     ensures { spot result out.new ≡ lay (spot at out.old) (hex_byte byte) }
 {
@@ -58,10 +57,8 @@ pub fn put_hex(out: &mut [u8], at: usize, bytes: &[u8]) -> usize
     ensures { spot result out.new ≡ lay (spot at out.old) (hex bytes.now) }
 {
     let mut to = at;
-    let mut i: usize = 0;
-    while i < bytes.len() {
-        to = put_hex_byte(out, to, bytes[i]);
-        i = i + 1;
+    for byte in bytes {
+        to = put_hex_byte(out, to, *byte);
     }
     to
 }
@@ -70,7 +67,7 @@ pub fn put_hex(out: &mut [u8], at: usize, bytes: &[u8]) -> usize
 pub fn put_hex_or_dash(out: &mut [u8], at: usize, bytes: &[u8]) -> usize
     ensures { spot result out.new ≡ lay (spot at out.old) (hex_or_dash bytes.now) }
 {
-    if bytes.len() == 0 {
+    if bytes.is_empty() {
         return put_byte(out, at, b'-');
     }
     put_hex(out, at, bytes)

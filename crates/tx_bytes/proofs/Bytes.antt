@@ -24,7 +24,7 @@ use Rattle.writer.proofs.Writes.{wrote_append, wrote_then, wrote_none}
 use Rattle.tx_size.specs.Lengths.{is_there, scripted, script_bytes, input_length, out_length, outs_length, capped, measure_by, out_measure, outs_measure}
 use Rattle.tx_size.specs.Lengths.{fixed_length}
 use Rattle.tx_size.specs.Places.{out_now, outs_now}
-use Rattle.tx_size.specs.declared.Measure.TheVariants.{Takes}
+use Rattle.std.specs.Prelude.{Ok}
 use Rattle.tx_size.proofs.Lengths.{more_takes, measure_is}
 use Rattle.tx_bytes.specs.Bytes.{bytes_in, input_ok_def, input_bytes, inputs_bytes, out_bytes, outs_bytes, tx_bytes}
 use Rattle.tx_bytes.specs.Puts.{put, put_input, put_inputs, put_output, put_outputs, put_lock, put_rest_def, put_front, put_tx}
@@ -144,7 +144,7 @@ module _ (a : Sized) (k : SizedTo 8 a) (h : is_there a ≡ true) (s : List ℕ) 
       wrote_then B _ _ at (at + 8 + length (shortest (length s))) (bytes_in a ++ shortest (length s)) s two (rw length-append (omega (arith, amount_long))) refl
       ∙ ap (wrote B at) (append_assoc (bytes_in a) (shortest (length s)) s)
 
-outs_long : (os : List Out) (n k : ℕ) → All SizedOut os → outs_measure os n ≡ Takes k → length (outs_bytes os) ≡ outs_length os
+outs_long : (os : List Out) (n k : ℕ) → All SizedOut os → outs_measure os n ≡ Ok k → length (outs_bytes os) ≡ outs_length os
 unfolding outs_measure out_measure outs_bytes outs_length
 outs_long [] n k a h = refl
 outs_long (o ∷ os) n k a h =
@@ -154,7 +154,7 @@ outs_long (o ∷ os) n k a h =
     let j = out_long o.amount a.0.amount= (measure_is o.amount o.script w q).1 (script_bytes o.script) in
     rw length-append (omega (arith, i, j)))
 
-put_outputs_lem : (os : List Out) (n k : ℕ) → All SizedOut os → outs_measure os n ≡ Takes k → (B : List ℕ) (at : ℕ)
+put_outputs_lem : (os : List Out) (n k : ℕ) → All SizedOut os → outs_measure os n ≡ Ok k → (B : List ℕ) (at : ℕ)
     → put_outputs B at os ≡ put (at + length (outs_bytes os)) (wrote B at (outs_bytes os))
 unfolding outs_measure out_measure put_outputs outs_bytes
 put_outputs_lem [] n k a h B at = let z : at + 0 ≡ at = omega arith in rw (z, wrote_none B at)
@@ -172,7 +172,7 @@ put_outputs_lem (o ∷ os) n k a h B at =
 
 -- the whole transaction has the length that was measured, and is written as its bytes are
 module _ (s : Psbt) (ins : List In) (outs : List Out) (n m k : ℕ) (a : All SizedIn ins) (b : All SizedOut outs)
-    (h : every input_ok_def ins ≡ true) (q : outs_measure outs m ≡ Takes k) where
+    (h : every input_ok_def ins ≡ true) (q : outs_measure outs m ≡ Ok k) where
   pub tx_long : length (tx_bytes s ins outs n) ≡ fixed_length (length ins) (length outs) + outs_length outs
   unfolding tx_bytes fixed_length size_length
   tx_long =

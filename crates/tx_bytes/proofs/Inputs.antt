@@ -7,13 +7,12 @@ use lib.ListN.{length, drop, length-take}
 use mir.Syntax.{w64}
 use mir.Val.{Fits}
 use Rattle.format.specs.Numbers.{bytes_of}
-use Rattle.format.specs.Lookups.{part}
 use Rattle.format.specs.Locks.{In, in_of}
 use Rattle.format.specs.Transaction.{or_final}
 use Rattle.format.specs.declared.MapEntry.{MapEntry}
 use Rattle.format.specs.declared.Psbt.{Psbt}
-use Rattle.format.specs.declared.Looked.TheVariants as K
 use Rattle.entries.specs.Words.{map_at}
+use Rattle.fitness.specs.Parts.{bytes_at}
 use Rattle.all_maps_fit.specs.Alls.{Usable, pairs_of, in_at, from, ins_of}
 use Rattle.all_maps_fit.specs.Places.{sized_in, input_in}
 use Rattle.all_maps_fit.specs.declared.SizedAt.{SizedAt}
@@ -38,13 +37,13 @@ module _ (f : List ℕ) (x : SizedAt) (w at : ℕ) (B : List ℕ) where
   unfolding bytes_in sized_in
   field_misfit h = sym (ap (λ (y : SizedAt). wrote B at (bytes_in (sized_in w f y))) h ∙ wrote_none B at)
 
-  module _ (s : ℕ) (v : List ℕ) (e : v ≡ part f (K.At s w)) where
+  module _ (s : ℕ) (v : List ℕ) (e : v ≡ bytes_at f s w) where
     pub field_room : at + w ≤ length B → at + length v ≤ length B
-    unfolding part
+    unfolding bytes_at
     field_room h = omega (arith, ap length e ∙ length-take w (drop s f))
 
     pub field_there : x ≡ S.At s → (B₁ : List ℕ) → B₁ ≡ wrote B at v → B₁ ≡ wrote B at (bytes_in (sized_in w f x))
-    unfolding part bytes_in sized_in
+    unfolding bytes_at bytes_in sized_in
     field_there h B₁ q = q ∙ ap (wrote B at) e ∙ sym (ap (λ (y : SizedAt). wrote B at (bytes_in (sized_in w f y))) h)
 
 pub ruleset fields_put = (field_missing, field_misfit, field_room, field_there)

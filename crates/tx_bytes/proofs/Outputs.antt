@@ -8,16 +8,15 @@ use mir.Syntax.{w64}
 use mir.Val.{Fits}
 use Rattle.format.specs.Compact.{shortest}
 use Rattle.format.specs.Content.{Found, field}
-use Rattle.format.specs.Lookups.{part}
 use Rattle.format.specs.Locks.{Sized, sized_to}
 use Rattle.format.specs.Scripts.{Out, out_of}
 use Rattle.format.specs.Transaction.{set_so_far}
 use Rattle.format.specs.declared.MapEntry.{MapEntry}
 use Rattle.format.specs.declared.Psbt.{Psbt}
 use Rattle.format.specs.declared.State.{State}
-use Rattle.format.specs.declared.Looked.TheVariants as K
 use Rattle.wire.proofs.Sizes.{part_rest}
 use Rattle.entries.specs.Words.{map_at}
+use Rattle.fitness.specs.Parts.{bytes_at}
 use Rattle.scripts.specs.Tables.{entry_at}
 use Rattle.all_maps_fit.specs.Alls.{Usable, from}
 use Rattle.all_maps_fit.specs.Places.{sized_in}
@@ -40,15 +39,15 @@ module _ (f e : List ℕ) (x : ScriptAt) where
   pub put_missing : x ≡ Missing → (B : List ℕ) (to : ℕ) → B ≡ wrote B to (script_bytes (script_in f e x))
   put_missing h B to = sym (ap (wrote B to) (sym (in_none f e x h)) ∙ wrote_none B to)
 
-  module _ (s n : ℕ) (h : x ≡ InFile s n) (v : List ℕ) (q : v ≡ part f (K.At s n)) where
-    pub room_file : (to n : ℕ) → to + script_length f e x ≤ n → to + length v ≤ n
-    room_file to n r = omega (arith, len_file f e x s _ h v q)
+  module _ (s n : ℕ) (h : x ≡ InFile s n) (v : List ℕ) (q : v ≡ bytes_at f s n) where
+    pub room_file : (to r : ℕ) → to + script_length f e x ≤ r → to + length v ≤ r
+    room_file to r l = omega (arith, len_file f e x s n h v q)
 
     pub put_file : (B B₁ : List ℕ) (to : ℕ) → B₁ ≡ wrote B to v → B₁ ≡ wrote B to (script_bytes (script_in f e x))
     put_file B B₁ to w = w ∙ ap (wrote B to) (in_file_lem f e x s n h v q)
 
   module _ (h : x ≡ InTable) where
-    pub put_none : length e ≡ 0 → (B : List ℕ) (to : ℕ) → B ≡ wrote B to (script_bytes (script_in f e x))
+    pub put_none : length e < 1 → (B : List ℕ) (to : ℕ) → B ≡ wrote B to (script_bytes (script_in f e x))
     put_none l B to =
         let k : length e ≤ 1 = omega arith in
         sym (ap (wrote B to) (sym (in_table f e x h) ∙ drop_of_length-le e k) ∙ wrote_none B to)

@@ -7,9 +7,6 @@ use native.Mathlib.Omega.{arith}
 use borrow.Author.Tests.{leb-true}
 use lib.Dec.{leb}
 use lib.ListN.{length}
-use mir.Syntax.{w32}
-use mir.Val.{SFits, to_z, of_z}
-use mir.Facts.{to_z-of_z}
 use Rattle.format.specs.Numbers.{bytes_of, unsigned}
 use Rattle.format.specs.Compact.{shortest}
 use Rattle.format.specs.Locks.{In}
@@ -53,11 +50,6 @@ outs_place (o ∷ os) B at a B₁ h =
     (omega (arith, i.0), i.1 ∙ length_output B at o.amount _)
 
 -- version, count and inputs
-pub version_is : (s : Psbt) (v : ℕ) (B B₁ : List ℕ) → SFits w32 s.tx_version → v ≡ unsigned (to_z w32 (of_z w32 s.tx_version))
-    → B₁ ≡ wrote B 0 (bytes_of 4 v)
-    → B₁ ≡ wrote B 0 (bytes_of 4 (unsigned s.tx_version))
-version_is s v B B₁ f e q = q ∙ ap (λ (k : ℕ). wrote B 0 (bytes_of 4 k)) (e ∙ ap unsigned (to_z-of_z f))
-
 pub front_is : (f P M : List ℕ) (s : Psbt) (B B₁ : List ℕ) → B₁ ≡ wrote B 0 (bytes_of 4 (unsigned s.tx_version))
     → (B₂ : List ℕ) → B₂ ≡ wrote B₁ 4 (shortest s.inputs) → (a to : ℕ) → a ≡ size_length s.inputs → to ≡ 4 + a
     → (r : ℕ) (B₃ : List ℕ) → put r B₃ ≡ put_inputs B₂ to (ins_of f P M s) → put r B₃ ≡ put_front B s (ins_of f P M s)

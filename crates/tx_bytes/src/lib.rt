@@ -14,7 +14,7 @@ ghost use Rattle.tx_bytes.specs.Puts.{put, put_input, put_inputs, put_one, put_o
 ghost use Rattle.tx_bytes.specs.Rooms.{in_in, InputRoom, InputsRoom, OutputRoom, OutputsRoom, FrontRoom, RestRoom, TxRoom};
 
 use all_maps_fit::SizedAt;
-use format::{Looked, MapEntry, PSBT_OUT_AMOUNT, Psbt, State};
+use format::{MapEntry, PSBT_OUT_AMOUNT, Psbt, State};
 use tx_size::{INPUT_LEN, ScriptAt};
 
 // The sequence of an input that has none.
@@ -25,13 +25,8 @@ fn put_at(file: &[u8], x: SizedAt, width: usize, out: &mut [u8], at: usize)
     requires { at + width ≤ length out.old }
     ensures { out.new ≡ wrote out.old at (bytes_in (sized_in width file.now x)) }
 {
-    match x {
-        SizedAt::Missing => {}
-        SizedAt::Misfit => {}
-        SizedAt::At { start } => {
-            let looked = Looked::At { start, len: width };
-            writer::put_bytes(out, at, lookup::part_of(file, looked));
-        }
+    if let SizedAt::At { start } = x {
+        writer::put_bytes(out, at, fitness::bytes_at(file, start, width));
     }
 }
 
@@ -41,13 +36,9 @@ fn put_sequence(file: &[u8], x: SizedAt, out: &mut [u8], at: usize)
     ensures { out.new ≡ wrote out.old at (bytes_in (or_final (sized_in 4 file.now x))) }
 {
     match x {
-        SizedAt::Missing => {
-            writer::put_le(out, at, FINAL, 4);
-        }
+        SizedAt::Missing => writer::put_le(out, at, FINAL, 4),
         SizedAt::Misfit => {}
-        SizedAt::At { start: _ } => {
-            put_at(file, x, 4, out, at);
-        }
+        SizedAt::At { .. } => put_at(file, x, 4, out, at),
     }
 }
 
@@ -57,16 +48,10 @@ fn put_input(file: &[u8], pairs: &[u32], m: MapEntry, out: &mut [u8], at: usize)
     ensures { out.new ≡ put_input out.old at (in_in file.now pairs.now m) }
 {
     let places = all_maps_fit::input_at(file, pairs, m);
-    let txid = places.txid;
-    let index = places.index;
-    let sequence = places.sequence;
-    let to_index = at + 32;
-    let to_script = at + 36;
-    let to_sequence = at + 37;
-    put_at(file, txid, 32, out, at);
-    put_at(file, index, 4, out, to_index);
-    writer::put_le(out, to_script, 0, 1);
-    put_sequence(file, sequence, out, to_sequence);
+    put_at(file, places.txid, 32, out, at);
+    put_at(file, places.index, 4, out, at + 32);
+    writer::put_le(out, at + 36, 0, 1);
+    put_sequence(file, places.sequence, out, at + 37);
 }
 
 // All inputs, and the place behind them.
@@ -81,13 +66,11 @@ fn put_inputs(
     requires { InputsRoom file.now pairs.now maps.now psbt at (length out.old) }
     ensures { put result out.new ≡ put_inputs out.old at (ins_of file.now pairs.now maps.now psbt) }
 {
-    let mut i: u64 = 0;
     let mut to = at;
-    while i < psbt.inputs {
+    for i in 0..psbt.inputs {
         let m = all_maps_fit::input_entry(maps, i);
         put_input(file, pairs, m, out, to);
-        to = to + INPUT_LEN as usize;
-        i = i + 1;
+        to += INPUT_LEN as usize;
     }
     to
 }
@@ -100,14 +83,12 @@ fn put_script(file: &[u8], entry: &[u8], at: ScriptAt, out: &mut [u8], to: usize
     match at {
         ScriptAt::Missing => {}
         ScriptAt::InFile { start, len } => {
-            let looked = Looked::At { start, len };
-            writer::put_bytes(out, to, lookup::part_of(file, looked));
+            writer::put_bytes(out, to, fitness::bytes_at(file, start, len))
         }
         ScriptAt::InTable => {
-            if entry.len() == 0 {
-                return;
+            if let [_, script @ ..] = entry {
+                writer::put_bytes(out, to, script);
             }
-            writer::put_bytes(out, to, &entry[1..]);
         }
     }
 }
@@ -152,13 +133,11 @@ fn put_outputs(
     ensures { put result out.new ≡ put_outputs out.old at
         (outs_now file.now pairs.now maps.now psbt state scripts.now) }
 {
-    let mut i: u64 = 0;
     let mut to = at;
-    while i < psbt.outputs {
+    for i in 0..psbt.outputs {
         let m = all_maps_fit::output_entry(maps, psbt, i);
         let entry = tx_size::set_entry(scripts, state, i);
         to = put_output(file, pairs, m, entry, out, to);
-        i = i + 1;
     }
     to
 }

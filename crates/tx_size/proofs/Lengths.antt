@@ -2,7 +2,7 @@
 use mathlib.Core.Path.{◌≡◌, refl, sym, ◌∙◌, ap}
 use mathlib.Core.Bool.{Bool, true, false}
 use mathlib.Core.List.{List, [], ◌∷◌}
-use Prim.Native.Nat.{ℕ, ◌+◌, ◌-◌, ◌*◌, ◌/◌, ◌^◌, ◌≤◌, ◌<◌}
+use Prim.Native.Nat.{ℕ, ◌+◌, ◌*◌, ◌^◌, ◌≤◌, ◌<◌, min}
 use native.Mathlib.Omega.{arith}
 use borrow.Author.Tests.{le-leb, leb-true, leb-false}
 use lib.Dec.{leb}
@@ -18,20 +18,19 @@ use Rattle.format.proofs.Tests.{pick_by}
 use Rattle.writer.specs.Writes.{size_length}
 use Rattle.writer.proofs.Puts.{size_most}
 use Rattle.tx_size.specs.Lengths.{is_there, script_bytes, input_length, out_length, outs_length, greatest}
-use Rattle.tx_size.specs.Lengths.{capped, measure_by, out_measure, more_by, outs_measure, fixed_length}
-use Rattle.tx_size.specs.declared.Measure.{Measure}
-use Rattle.tx_size.specs.declared.Measure.TheVariants.{Refused, Takes}
+use Rattle.tx_size.specs.Lengths.{capped, Measure, measure_by, out_measure, more_by, outs_measure, fixed_length}
+use Rattle.std.specs.Prelude.{Ok, Err}
 
 -- a refusal is no length
-pub takes_not : {A : Type 0} (e : PsbtError) (w : ℕ) → Refused e ≡ Takes w → A
+pub takes_not : {A : Type 0} (e : PsbtError) (w : ℕ) → Err e ≡ Ok w → A
 takes_not e w h = let z : ◌≡◌ {A = ℕ} 0 1 = cc in absurd (omega arith)
 
 -- by the first output's measure
-pub more_takes : {R : Type 0} (f : ℕ → Measure) (n k : ℕ) (o : Measure) → more_by f n o ≡ Takes k
-    → ((w : ℕ) → o ≡ Takes w → f (capped (n + w)) ≡ Takes k → R) → R
+pub more_takes : {R : Type 0} (f : ℕ → Measure) (n k : ℕ) (o : Measure) → more_by f n o ≡ Ok k
+    → ((w : ℕ) → o ≡ Ok w → f (capped (n + w)) ≡ Ok k → R) → R
 unfolding more_by
-more_takes f n k (Refused e) h g = takes_not e k h
-more_takes f n k (Takes w) h g = g w refl h
+more_takes f n k (Err e) h g = takes_not e k h
+more_takes f n k (Ok w) h g = g w refl h
 
 -- a number that no longer grows
 pub capped_most : (n : ℕ) → capped n ≤ greatest
@@ -69,14 +68,14 @@ module _ (n L : ℕ) (l : L < greatest) where
       by false q = absurd (omega (arith, capped_past n (omega (arith, leb-false n greatest q))))
 
 -- how long the outputs are
-pub measure_is : (a : Sized) (f : Found) (w : ℕ) → measure_by a f ≡ Takes w → (w ≡ out_length (length (script_bytes f))) × (is_there a ≡ true)
+pub measure_is : (a : Sized) (f : Found) (w : ℕ) → measure_by a f ≡ Ok w → (w ≡ out_length (length (script_bytes f))) × (is_there a ≡ true)
 unfolding measure_by script_bytes is_there
 measure_is missing f w h = takes_not BadValue w h
 measure_is misfit f w h = takes_not BadValue w h
 measure_is (is v) absent w h = takes_not MissingOutputScript w h
 measure_is (is v) (found s) w h = let x : out_length (length s) ≡ w = cc in (sym x, refl)
 
-pub outs_length_lem : (os : List Out) (n k : ℕ) → n ≤ greatest → outs_measure os n ≡ Takes k → k ≡ capped (n + outs_length os)
+pub outs_length_lem : (os : List Out) (n k : ℕ) → n ≤ greatest → outs_measure os n ≡ Ok k → k ≡ capped (n + outs_length os)
 unfolding outs_measure out_measure outs_length
 outs_length_lem [] n k l h = let x : n ≡ k = cc in let y : n + 0 ≡ n = omega arith in rw y (sym x ∙ sym (capped_is n l))
 outs_length_lem (o ∷ os) n k l h =
@@ -100,15 +99,11 @@ module _ (n k : ℕ) (e : k ≡ size_length n) where
 
 pub ruleset out_lens = (out_is, out_fits, out_whole)
 
--- sums that no longer grow
-module _ (a b : ℕ) where
-  pub cap_past : greatest - a < b → greatest ≡ capped (a + b)
-  cap_past h = sym (capped_past (a + b) (omega arith))
-
-  pub cap_sum : b ≤ greatest - a → a < 2 ^ 64 → a + b ≡ capped (a + b)
-  cap_sum h l = sym (capped_is (a + b) (omega arith))
-
-pub ruleset caps = (cap_past, cap_sum)
+-- a number that no longer grows, as the library has it
+pub capped_min : (n r : ℕ) → r ≡ min n greatest → r ≡ capped n
+unfolding capped
+capped_min n r e = e ∙ pick_by (λ (k : ℕ). min n greatest ≡ k) (leb n greatest) _ _ (λ q. omega (arith, leb-true n greatest q))
+    (λ q. omega (arith, leb-false n greatest q))
 
 -- all but the outputs
 module _ (n m a b : ℕ) (ea : a ≡ size_length n) (eb : b ≡ size_length m) where
@@ -119,12 +114,10 @@ module _ (n m a b : ℕ) (ea : a ≡ size_length n) (eb : b ≡ size_length m) w
     pub fixed_both : Fits w64 (k + a + b)
     fixed_both = record { fits = omega (arith, size_most n, size_most m, leb-true k 8 few) }
 
-  pub fixed_past : greatest / input_length < n → greatest ≡ capped (fixed_length n m)
+  pub fixed_is : (p r : ℕ) → p ≡ min (n * input_length) greatest → r ≡ min (p + (8 + a + b)) greatest → r ≡ capped (fixed_length n m)
   unfolding fixed_length
-  fixed_past h = sym (capped_past (n * input_length + (8 + size_length n + size_length m)) (omega arith))
+  fixed_is p r e q =
+      capped_min (p + (8 + a + b)) r q ∙ ap (λ (x : ℕ). capped (x + (8 + a + b))) (capped_min (n * input_length) p e)
+      ∙ capped_more (n * input_length) (8 + a + b) ∙ rw (ea, eb)
 
-  pub fixed_is : n ≤ greatest / input_length → (r : ℕ) → r ≡ capped (n * input_length + (8 + a + b)) → r ≡ capped (fixed_length n m)
-  unfolding fixed_length
-  fixed_is h r q = q ∙ rw (ea, eb)
-
-pub ruleset fixes = (fixed_fits, fixed_both, fixed_past, fixed_is)
+pub ruleset fixes = (fixed_fits, fixed_both, fixed_is)

@@ -20,19 +20,15 @@ use Rattle.all_maps_fit.specs.Places.{sized_in}
 use Rattle.all_maps_fit.specs.declared.SizedAt.{SizedAt}
 use Rattle.all_maps_fit.specs.declared.SizedAt.TheVariants as S
 use Rattle.all_maps_fit.proofs.Runs.{rest_none, rest_one, rest_all}
-use Rattle.tx_size.specs.Lengths.{is_there, scripted, script_bytes, out_length, capped, measure_by, out_measure, more_by, outs_measure, fixed_length}
+use Rattle.tx_size.specs.Lengths.{is_there, scripted, script_bytes, out_length, capped, measure_by, out_measure, more_by, outs_measure, fixed_length, Measure}
 use Rattle.tx_size.specs.Lengths.{tx_measure}
 use Rattle.tx_size.specs.Places.{pairs_in, out_in, out_now, outs_now, there_at, script_in, script_length, has_script}
-use Rattle.tx_size.specs.declared.Measure.{Measure}
-use Rattle.tx_size.specs.declared.Measure.TheVariants.{Refused, Takes}
+use Rattle.std.specs.Prelude.{Ok, Err}
 use Rattle.tx_size.specs.declared.ScriptAt.{ScriptAt}
 use Rattle.tx_size.specs.declared.ScriptAt.TheVariants.{Missing, InFile, InTable}
 use Rattle.tx_size.proofs.Scripts.{script_few}
 
 -- a field that is there, by the case that it is
-pub there_by : (x y : SizedAt) (b : Bool) → x ≡ y → b ≡ there_at y → b ≡ there_at x
-there_by x y b e h = h ∙ sym (ap there_at e)
-
 pub there_in : (w : ℕ) (f : List ℕ) (x : SizedAt) → is_there (sized_in w f x) ≡ there_at x
 unfolding is_there sized_in there_at
 there_in w f S.Missing = refl
@@ -46,18 +42,18 @@ module _ (f P : List ℕ) (m : MapEntry) (e : List ℕ) (x : SizedAt) (ex : size
   unfolding scripted out_in out_of
   amount_is = sym ex
 
-  measure_none : (y : Sized) (z : Found) → is_there y ≡ false → Refused BadValue ≡ measure_by y z
+  measure_none : (y : Sized) (z : Found) → is_there y ≡ false → Err BadValue ≡ measure_by y z
   unfolding measure_by is_there
   measure_none missing z h = refl
   measure_none misfit z h = refl
   measure_none (is v) z h = never_true (sym h)
 
-  pub len_amount : a ≡ false → Refused BadValue ≡ out_measure (scripted (out_in f P m) e)
+  pub len_amount : a ≡ false → Err BadValue ≡ out_measure (scripted (out_in f P m) e)
   unfolding out_measure
   len_amount h = measure_none (scripted (out_in f P m) e).amount (scripted (out_in f P m) e).script (ap is_there amount_is ∙ there_in 8 f x ∙ sym ea ∙ h)
 
   module _ (h : a ≡ true) (y : ScriptAt) (ey : script_in f e y ≡ (scripted (out_in f P m) e).script) (b : Bool) (eb : b ≡ has_script y) where
-    by_script : (v : Sized) → is_there v ≡ true → (z : ScriptAt) → b ≡ has_script z → b ≡ false → Refused MissingOutputScript ≡ measure_by v (script_in f e z)
+    by_script : (v : Sized) → is_there v ≡ true → (z : ScriptAt) → b ≡ has_script z → b ≡ false → Err MissingOutputScript ≡ measure_by v (script_in f e z)
     unfolding measure_by is_there script_in has_script
     by_script missing q z r t = never_true q
     by_script misfit q z r t = never_true q
@@ -66,7 +62,7 @@ module _ (f P : List ℕ) (m : MapEntry) (e : List ℕ) (x : SizedAt) (ex : size
     by_script (is v) q InTable r t = never_true (sym t ∙ r)
 
     with_script : (v : Sized) → is_there v ≡ true → (z : ScriptAt) → b ≡ has_script z → b ≡ true
-        → Takes (out_length (script_length f e z)) ≡ measure_by v (script_in f e z)
+        → Ok (out_length (script_length f e z)) ≡ measure_by v (script_in f e z)
     unfolding measure_by is_there script_in has_script script_length script_bytes
     with_script missing q z r t = never_true q
     with_script misfit q z r t = never_true q
@@ -77,14 +73,14 @@ module _ (f P : List ℕ) (m : MapEntry) (e : List ℕ) (x : SizedAt) (ex : size
     there : is_there (scripted (out_in f P m) e).amount ≡ true
     there = ap is_there amount_is ∙ there_in 8 f x ∙ sym ea ∙ h
 
-    pub len_script : b ≡ false → Refused MissingOutputScript ≡ out_measure (scripted (out_in f P m) e)
+    pub len_script : b ≡ false → Err MissingOutputScript ≡ out_measure (scripted (out_in f P m) e)
     unfolding out_measure
     len_script t = by_script (scripted (out_in f P m) e).amount there y eb t ∙ ap (measure_by (scripted (out_in f P m) e).amount) ey
 
-    pub len_takes : b ≡ true → (l : ℕ) → l ≡ script_length f e y → (n : ℕ) → n ≡ out_length l → Takes n ≡ out_measure (scripted (out_in f P m) e)
+    pub len_takes : b ≡ true → (l : ℕ) → l ≡ script_length f e y → (n : ℕ) → n ≡ out_length l → Ok n ≡ out_measure (scripted (out_in f P m) e)
     unfolding out_measure
     len_takes t l el n en =
-        ap Takes (en ∙ ap out_length el) ∙ with_script (scripted (out_in f P m) e).amount there y eb t ∙ ap (measure_by (scripted (out_in f P m) e).amount) ey
+        ap Ok (en ∙ ap out_length el) ∙ with_script (scripted (out_in f P m) e).amount there y eb t ∙ ap (measure_by (scripted (out_in f P m) e).amount) ey
 
 pub ruleset lens = (len_amount, len_script, len_takes, script_few)
 
@@ -103,7 +99,7 @@ unfolding outs_now
 measure_first f P M s t T first = record { is = ap (λ (l : List Out). outs_measure l first) (rest_all (out_now f P M s t T) s.outputs) }
 
 module _ (f P M : List ℕ) (s : Psbt) (t : State) (T : List ℕ) (first i total : ℕ) (k : Measuring f P M s t T first i total) where
-  pub measure_done : s.outputs ≤ i → Takes total ≡ outs_measure (outs_now f P M s t T) first
+  pub measure_done : s.outputs ≤ i → Ok total ≡ outs_measure (outs_now f P M s t T) first
   unfolding outs_measure
   measure_done h = sym (ap (λ (l : List Out). outs_measure l total) (rest_none (out_now f P M s t T) i s.outputs h)) ∙ k.is
 
@@ -117,13 +113,13 @@ module _ (f P M : List ℕ) (s : Psbt) (t : State) (T : List ℕ) (first i total
         ∙ ap (more_by (outs_measure (from (out_now f P M s t T) (i + 1) (s.outputs - (i + 1)))) total)
         (ap out_measure (out_at_lem f P M s t T i m e em ee) ∙ sym q ∙ w)
 
-    pub measure_stop : (x : PsbtError) → r ≡ Refused x → Refused x ≡ outs_measure (outs_now f P M s t T) first
+    pub measure_stop : (x : PsbtError) → r ≡ Err x → Err x ≡ outs_measure (outs_now f P M s t T) first
     unfolding more_by
-    measure_stop x w = sym (step (Refused x) w)
+    measure_stop x w = sym (step (Err x) w)
 
-    pub measure_more : (n : ℕ) → r ≡ Takes n → (c : ℕ) → c ≡ capped (total + n) → Measuring f P M s t T first (i + 1) c
+    pub measure_more : (n : ℕ) → r ≡ Ok n → (c : ℕ) → c ≡ capped (total + n) → Measuring f P M s t T first (i + 1) c
     unfolding more_by
-    measure_more n w c ec = record { is = ap (outs_measure (from (out_now f P M s t T) (i + 1) (s.outputs - (i + 1)))) ec ∙ sym (step (Takes n) w) }
+    measure_more n w c ec = record { is = ap (outs_measure (from (out_now f P M s t T) (i + 1) (s.outputs - (i + 1)))) ec ∙ sym (step (Ok n) w) }
 
 pub ruleset measures = (measure_first, measure_done, measure_stop, measure_more)
 

@@ -8,20 +8,19 @@ use lib.Dec.{eqb}
 use lib.ListN.{length, get_or, take, drop, length-take, length-drop, drop_of_length-le}
 use lib.Seq.{take-nil}
 use Rattle.format.specs.Content.{Found, absent, found}
-use Rattle.format.specs.Lookups.{part}
 use Rattle.format.specs.Scripts.{out_of, script_entry}
 use Rattle.format.specs.Transaction.{set_so_far, set_script, script_of}
 use Rattle.format.specs.declared.MapEntry.{MapEntry}
 use Rattle.format.specs.declared.State.{State}
-use Rattle.format.specs.declared.Looked.TheVariants as K
+use Rattle.format.specs.declared.Part.{Part}
+use Rattle.std.specs.Prelude.{Some, None}
 use Rattle.format.proofs.Tests.{never_true}
+use Rattle.fitness.specs.Parts.{bytes_at}
 use Rattle.scripts.specs.Tables.{entry_at}
-use Rattle.all_maps_fit.specs.Places.{found_in_def, field_at}
-use Rattle.all_maps_fit.specs.declared.FoundAt.{FoundAt}
-use Rattle.all_maps_fit.specs.declared.FoundAt.TheVariants as F
+use Rattle.all_maps_fit.specs.Places.{found_in_def, field_at, FoundAt}
 use Rattle.all_maps_fit.proofs.Fields.{usable_within, found_shows}
 use Rattle.tx_size.specs.Lengths.{scripted, script_bytes}
-use Rattle.tx_size.specs.Places.{out_in, is_set, script_in, script_length, has_script}
+use Rattle.tx_size.specs.Places.{out_in, is_set, script_in, script_length}
 use Rattle.tx_size.specs.declared.ScriptAt.{ScriptAt}
 use Rattle.tx_size.specs.declared.ScriptAt.TheVariants.{Missing, InFile, InTable}
 
@@ -68,11 +67,11 @@ module _ (f P : List ℕ) (m : MapEntry) (e : List ℕ) (x : FoundAt) (is : x �
   unfolding out_in out_of
   script_field = sym (found_shows f P 0x04 m x is)
 
-  pub script_file : (s n : ℕ) → x ≡ F.At s n → script_in f e (InFile s n) ≡ (scripted (out_in f P m) e).script
+  pub script_file : (p : Part) → x ≡ Some p → script_in f e (InFile p.start p.len) ≡ (scripted (out_in f P m) e).script
   unfolding script_in scripted script_of found_in_def
-  script_file s n h = sym (ap (λ (y : Found). script_of y e) (script_field ∙ ap (found_in_def f) h))
+  script_file p h = sym (ap (λ (y : Found). script_of y e) (script_field ∙ ap (found_in_def f) h))
 
-  module _ (h : x ≡ F.Missing) (b : Bool) (q : b ≡ is_set e) where
+  module _ (h : x ≡ None) (b : Bool) (q : b ≡ is_set e) where
     no_file : (scripted (out_in f P m) e).script ≡ set_script e
     unfolding scripted script_of found_in_def
     no_file = ap (λ (y : Found). script_of y e) (script_field ∙ ap (found_in_def f) h)
@@ -92,9 +91,6 @@ module _ (f e : List ℕ) (x : ScriptAt) where
   script_by_lem : (y : ScriptAt) → x ≡ y → script_bytes (script_in f e x) ≡ script_bytes (script_in f e y)
   script_by_lem y h = ap (λ (z : ScriptAt). script_bytes (script_in f e z)) h
 
-  pub has_by : (y : ScriptAt) (b : Bool) → x ≡ y → b ≡ has_script y → b ≡ has_script x
-  has_by y b e h = h ∙ sym (ap has_script e)
-
   pub in_none : x ≡ Missing → [] ≡ script_bytes (script_in f e x)
   unfolding script_bytes script_in
   in_none h = sym (script_by_lem Missing h)
@@ -103,9 +99,9 @@ module _ (f e : List ℕ) (x : ScriptAt) where
   unfolding script_length
   len_missing h = ap length (in_none h)
 
-  module _ (s n : ℕ) (h : x ≡ InFile s n) (v : List ℕ) (q : v ≡ part f (K.At s n)) where
+  module _ (s n : ℕ) (h : x ≡ InFile s n) (v : List ℕ) (q : v ≡ bytes_at f s n) where
     pub in_file_lem : v ≡ script_bytes (script_in f e x)
-    unfolding script_bytes script_in part
+    unfolding script_bytes script_in bytes_at
     in_file_lem = q ∙ sym (script_by_lem (InFile s n) h)
 
     pub len_file : length v ≡ script_length f e x
@@ -121,10 +117,7 @@ module _ (f e : List ℕ) (x : ScriptAt) where
     unfolding script_length
     len_table = sym (length-drop 1 e) ∙ ap length in_table
 
-    pub len_none : length e ≡ 0 → 0 ≡ script_length f e x
-    len_none l = omega (arith, len_table)
-
-pub ruleset script_lens = (len_missing, len_file, len_none, len_table)
+pub ruleset script_lens = (len_missing, len_file, len_table)
 
 -- it is short enough to be counted
 few : (f e : List ℕ) (x : ScriptAt) → length f * 1 < 2 ^ 63 → length e * 1 < 2 ^ 63 → script_length f e x < 2 ^ 63

@@ -1,15 +1,14 @@
 -- How many bytes a transaction takes, by its inputs and outputs, and what an output must have.
-use Rattle.std.specs.Prelude.{ℕ, ◌+◌, ◌*◌, Bool, true, false, List, [], ◌∷◌, length, leb}
+use Rattle.std.specs.Prelude.{ℕ, ◌+◌, ◌*◌, Bool, true, false, List, [], ◌∷◌, length, leb, Ok, Err}
 use Rattle.format.specs.Tests.{pick}
 use Rattle.format.specs.Content.{Found, absent, found}
 use Rattle.format.specs.Locks.{Sized, missing, misfit, is}
 use Rattle.format.specs.Scripts.{Out}
 use Rattle.format.specs.Transaction.{script_of}
+use Rattle.format.specs.Answers.{Answer}
 use Rattle.format.specs.declared.PsbtError.TheVariants.{BadValue, MissingOutputScript}
 use Rattle.format.specs.declared.Psbt.{Psbt}
 use Rattle.writer.specs.Writes.{size_length}
-use Rattle.tx_size.specs.declared.Measure.{Measure}
-use Rattle.tx_size.specs.declared.Measure.TheVariants.{Refused, Takes}
 
 -- a field is there, with its length
 unfoldable pub is_there : Sized → Bool
@@ -47,12 +46,16 @@ greatest = 18446744073709551615
 unfoldable pub capped : ℕ → ℕ
 capped n = pick (leb n greatest) n greatest
 
+-- how many bytes something takes, or the refusal
+abbrev pub Measure : Type 0
+Measure = Answer ℕ
+
 -- an output's measure: amount missing, then script missing
 unfoldable pub measure_by : Sized → Found → Measure
-measure_by missing s = Refused BadValue
-measure_by misfit s = Refused BadValue
-measure_by (is a) absent = Refused MissingOutputScript
-measure_by (is a) (found s) = Takes (out_length (length s))
+measure_by missing s = Err BadValue
+measure_by misfit s = Err BadValue
+measure_by (is a) absent = Err MissingOutputScript
+measure_by (is a) (found s) = Ok (out_length (length s))
 
 -- the same of an output as it is
 unfoldable pub out_measure : Out → Measure
@@ -60,12 +63,12 @@ out_measure o = measure_by o.amount o.script
 
 -- n bytes, then an output of this measure, then what k says of the bytes so far
 unfoldable pub more_by : (ℕ → Measure) → ℕ → Measure → Measure
-more_by k n (Refused e) = Refused e
-more_by k n (Takes w) = k (capped (n + w))
+more_by k n (Err e) = Err e
+more_by k n (Ok w) = k (capped (n + w))
 
 -- n bytes and then the outputs: how many bytes that is, or the first refusal
 unfoldable pub outs_measure : List Out → ℕ → Measure
-outs_measure [] n = Takes n
+outs_measure [] n = Ok n
 outs_measure (o ∷ os) n = more_by (outs_measure os) n (out_measure o)
 
 -- all but the outputs of a transaction with n inputs and m outputs

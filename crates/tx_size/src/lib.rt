@@ -8,15 +8,8 @@ ghost use Rattle.all_maps_fit.specs.Alls.{Usable, AllFit};
 ghost use Rattle.tx_size.specs.Lengths.{scripted, out_length, capped, out_measure, outs_measure, fixed_length, tx_measure};
 ghost use Rattle.tx_size.specs.Places.{out_in, outs_now, there_at, is_set, script_in, script_length, has_script};
 
-use all_maps_fit::{FoundAt, SizedAt};
-use format::{Looked, MapEntry, PSBT_OUT_AMOUNT, PSBT_OUT_SCRIPT, Psbt, PsbtError, State};
-
-// How many bytes something takes, or the refusal.
-#[derive(Clone, Copy)]
-pub enum Measure {
-    Refused(PsbtError),
-    Takes(u64),
-}
+use all_maps_fit::SizedAt;
+use format::{MapEntry, PSBT_OUT_AMOUNT, PSBT_OUT_SCRIPT, Psbt, PsbtError, State};
 
 // Where an output's script stands: in the file, or in its entry of the script table.
 #[derive(Clone, Copy)]
@@ -33,11 +26,7 @@ pub const INPUT_LEN: u64 = 41;
 pub fn is_there(x: SizedAt) -> bool
     ensures { result ≡ there_at x }
 {
-    match x {
-        SizedAt::Missing => false,
-        SizedAt::Misfit => false,
-        SizedAt::At { start: _ } => true,
-    }
+    matches!(x, SizedAt::At { .. })
 }
 
 // An output's entry of the script table, as far as one was set.
@@ -55,7 +44,7 @@ pub fn set_entry(scripts: &[u8], state: State, i: u64) -> &[u8]
 fn is_set(entry: &[u8]) -> bool
     ensures { result ≡ is_set entry.now }
 {
-    entry.len() != 0 && entry[0] == 1
+    !entry.is_empty() && entry[0] == 1
 }
 
 // Where an output's script stands: 04, else the one set.
@@ -65,14 +54,12 @@ pub fn script_at(file: &[u8], pairs: &[u32], m: MapEntry, entry: &[u8]) -> Scrip
         ≡ (scripted (out_in file.now pairs.now m) entry.now).script }
 {
     match all_maps_fit::found_field(file, pairs, m, PSBT_OUT_SCRIPT) {
-        FoundAt::At { start, len } => ScriptAt::InFile { start, len },
-        FoundAt::Missing => {
-            if is_set(entry) {
-                ScriptAt::InTable
-            } else {
-                ScriptAt::Missing
-            }
-        }
+        Some(p) => ScriptAt::InFile {
+            start: p.start,
+            len: p.len,
+        },
+        None if is_set(entry) => ScriptAt::InTable,
+        None => ScriptAt::Missing,
     }
 }
 
@@ -82,8 +69,8 @@ pub fn script_len(file: &[u8], entry: &[u8], at: ScriptAt) -> usize
 {
     match at {
         ScriptAt::Missing => 0,
-        ScriptAt::InFile { start, len } => lookup::part_of(file, Looked::At { start, len }).len(),
-        ScriptAt::InTable => { if entry.len() == 0 { 0 } else { entry.len() - 1 } }
+        ScriptAt::InFile { start, len } => fitness::bytes_at(file, start, len).len(),
+        ScriptAt::InTable => entry.len().saturating_sub(1),
     }
 }
 
@@ -91,11 +78,7 @@ pub fn script_len(file: &[u8], entry: &[u8], at: ScriptAt) -> usize
 fn has_script(at: ScriptAt) -> bool
     ensures { result ≡ has_script at }
 {
-    match at {
-        ScriptAt::Missing => false,
-        ScriptAt::InFile { start: _, len: _ } => true,
-        ScriptAt::InTable => true,
-    }
+    !matches!(at, ScriptAt::Missing)
 }
 
 // How many bytes an output with a script of `n` bytes takes.
@@ -104,32 +87,23 @@ fn out_len(n: usize) -> u64
     ensures { result ≡ out_length n }
 {
     let script = n as u64;
-    8 + (writer::size_len(script) as u64 + script)
+    8 + writer::size_len(script) as u64 + script
 }
 
 // An output's measure: amount missing, then script missing.
-fn output_len(file: &[u8], pairs: &[u32], m: MapEntry, entry: &[u8]) -> Measure
+fn output_len(file: &[u8], pairs: &[u32], m: MapEntry, entry: &[u8]) -> Result<u64, PsbtError>
     requires { Usable file.now pairs.now m }
     ensures { result ≡ out_measure (scripted (out_in file.now pairs.now m) entry.now) }
 {
     let amount = all_maps_fit::sized_field(file, pairs, m, PSBT_OUT_AMOUNT, 8);
-    if is_there(amount) {
-        let at = script_at(file, pairs, m, entry);
-        if has_script(at) {
-            Measure::Takes(out_len(script_len(file, entry, at)))
-        } else {
-            Measure::Refused(PsbtError::MissingOutputScript)
-        }
-    } else {
-        Measure::Refused(PsbtError::BadValue)
+    if !is_there(amount) {
+        return Err(PsbtError::BadValue);
     }
-}
-
-// A sum that no longer grows past the greatest number.
-fn add_capped(a: u64, b: u64) -> u64
-    ensures { result ≡ capped (a + b) }
-{
-    if u64::MAX - a < b { u64::MAX } else { a + b }
+    let at = script_at(file, pairs, m, entry);
+    if !has_script(at) {
+        return Err(PsbtError::MissingOutputScript);
+    }
+    Ok(out_len(script_len(file, entry, at)))
 }
 
 // So many bytes, and then all outputs.
@@ -141,26 +115,17 @@ fn outputs_len(
     state: State,
     scripts: &[u8],
     first: u64,
-) -> Measure
+) -> Result<u64, PsbtError>
     requires { AllFit file.now pairs.now maps.now psbt }
     ensures { result ≡ outs_measure (outs_now file.now pairs.now maps.now psbt state scripts.now) first }
 {
-    let mut i: u64 = 0;
     let mut total = first;
-    while i < psbt.outputs {
+    for i in 0..psbt.outputs {
         let m = all_maps_fit::output_entry(maps, psbt, i);
         let entry = set_entry(scripts, state, i);
-        match output_len(file, pairs, m, entry) {
-            Measure::Refused(e) => {
-                return Measure::Refused(e);
-            }
-            Measure::Takes(n) => {
-                total = add_capped(total, n);
-                i = i + 1;
-            }
-        }
+        total = total.saturating_add(output_len(file, pairs, m, entry)?);
     }
-    Measure::Takes(total)
+    Ok(total)
 }
 
 // All but the outputs.
@@ -168,11 +133,7 @@ fn fixed_len(psbt: Psbt) -> u64
     ensures { result ≡ capped (fixed_length psbt.inputs psbt.outputs) }
 {
     let sizes = 8 + writer::size_len(psbt.inputs) as u64 + writer::size_len(psbt.outputs) as u64;
-    if u64::MAX / INPUT_LEN < psbt.inputs {
-        u64::MAX
-    } else {
-        add_capped(psbt.inputs * INPUT_LEN, sizes)
-    }
+    psbt.inputs.saturating_mul(INPUT_LEN).saturating_add(sizes)
 }
 
 // The whole transaction's measure, where each input has what it needs.
@@ -183,7 +144,7 @@ pub fn tx_len(
     psbt: Psbt,
     state: State,
     scripts: &[u8],
-) -> Measure
+) -> Result<u64, PsbtError>
     requires { AllFit file.now pairs.now maps.now psbt }
     ensures { result ≡ tx_measure psbt (outs_now file.now pairs.now maps.now psbt state scripts.now) }
 {

@@ -16,14 +16,12 @@ use Rattle.entries.specs.Words.{pair_count, map_at}
 use Rattle.scripts.specs.Tables.{entry_at, fits_by}
 use Rattle.scripts.proofs.Tables.{fits_is}
 use Rattle.all_maps_fit.specs.Alls.{AllFit, pairs_of, out_at, from, outs_of}
-use Rattle.all_maps_fit.specs.Places.{found_in_def, field_at}
-use Rattle.all_maps_fit.specs.declared.FoundAt.{FoundAt}
-use Rattle.all_maps_fit.specs.declared.FoundAt.TheVariants as F
+use Rattle.all_maps_fit.specs.Places.{found_in_def, field_at, FoundAt}
+use Rattle.std.specs.Prelude.{Some, None, is_some}
 use Rattle.all_maps_fit.proofs.Runs.{rest_none, rest_one, rest_all}
 use Rattle.all_maps_fit.proofs.Gathers.{output_usable}
 use Rattle.all_maps_fit.proofs.Fields.{usable_within, found_shows}
 use Rattle.tx_size.specs.Places.{pairs_in}
-use Rattle.unsigned_tx.specs.Surveys.{is_found}
 
 -- the entry behind entry number i
 pub next_entry : (T : List ℕ) (i : ℕ) → drop script_entry (drop (i * script_entry) T) ≡ drop ((i + 1) * script_entry) T
@@ -32,13 +30,10 @@ next_entry T i =
     drop-drop script_entry (i * script_entry) T ∙ ap (λ (k : ℕ). drop k T) q
 
 -- a script that was found is present
-pub found_by : (x y : FoundAt) (b : Bool) → x ≡ y → b ≡ is_found y → b ≡ is_found x
-found_by x y b e h = h ∙ sym (ap is_found e)
-
-found_in : (f : List ℕ) (x : FoundAt) → present (found_in_def f x) ≡ is_found x
-unfolding present found_in_def is_found
-found_in f F.Missing = refl
-found_in f (F.At s n) = refl
+found_in : (f : List ℕ) (x : FoundAt) → present (found_in_def f x) ≡ is_some x
+unfolding present found_in_def
+found_in f None = refl
+found_in f (Some p) = refl
 
 -- judging entries from number i on gives what judging all gives
 pub record Judging (f P M : List ℕ) (s : Psbt) (T : List ℕ) (i : ℕ) : Type 0 where
@@ -54,7 +49,7 @@ module _ (f P M : List ℕ) (s : Psbt) (T : List ℕ) (i : ℕ) (k : Judging f P
   judge_done h = sym (ap (λ (l : List Out). scripts_fit l (drop (i * script_entry) T)) (rest_none (out_at f P M s) i s.outputs h)) ∙ k.is
 
   module _ (h : i < s.outputs) (m : MapEntry) (em : m ≡ map_at M (1 + s.inputs + i)) (x : FoundAt) (ex : x ≡ field_at f P 0x04 m) (b : Bool)
-      (eb : b ≡ is_found x)
+      (eb : b ≡ is_some x)
       (e : List ℕ) (ee : e ≡ entry_at T i) (r : Bool) (er : r ≡ fits_by b e) where
     one : entry_fits (out_at f P M s i).script (entry_at T i) ≡ r
     unfolding out_at out_of pairs_of

@@ -16,9 +16,8 @@ use Rattle.format.specs.declared.PsbtError.{PsbtError}
 use Rattle.format.specs.declared.PsbtError.TheVariants.{BadValue, MissingOutputScript}
 use Rattle.format.specs.declared.Psbt.{Psbt}
 use Rattle.format.proofs.Tests.{never_true, and_left, and_right}
-use Rattle.tx_size.specs.Lengths.{is_there, scripted, script_bytes, out_length, capped, measure_by, out_measure, more_by, outs_measure}
-use Rattle.tx_size.specs.declared.Measure.{Measure}
-use Rattle.tx_size.specs.declared.Measure.TheVariants.{Refused, Takes}
+use Rattle.tx_size.specs.Lengths.{is_there, scripted, script_bytes, out_length, capped, measure_by, out_measure, more_by, outs_measure, Measure}
+use Rattle.std.specs.Prelude.{Ok, Err}
 use Rattle.tx_size.proofs.Lengths.{takes_not, more_takes}
 use Rattle.tx_bytes.specs.Bytes.{bytes_in, input_ok_def, input_bytes, inputs_bytes, out_bytes, outs_bytes, tx_bytes}
 use Rattle.unsigned_tx.specs.Surveys.{all_scripted}
@@ -94,14 +93,14 @@ module _ (t : Tx) where
   out_both : Sized → Found → Tx
   out_both a f = needs a (λ v. needs_script f (λ s. ahead (v ++ (shortest (length s) ++ s)) t))
 
-  out_takes : (a : Sized) (f : Found) (w : ℕ) → measure_by a f ≡ Takes w → out_both a f ≡ ahead (out_bytes a (script_bytes f)) t
+  out_takes : (a : Sized) (f : Found) (w : ℕ) → measure_by a f ≡ Ok w → out_both a f ≡ ahead (out_bytes a (script_bytes f)) t
   unfolding out_both measure_by needs needs_script out_bytes bytes_in script_bytes
   out_takes missing f w h = takes_not BadValue w h
   out_takes misfit f w h = takes_not BadValue w h
   out_takes (is v) absent w h = takes_not MissingOutputScript w h
   out_takes (is v) (found s) w h = refl
 
-  out_refused : (a : Sized) (f : Found) (e : PsbtError) → measure_by a f ≡ Refused e → out_both a f ≡ refuses e
+  out_refused : (a : Sized) (f : Found) (e : PsbtError) → measure_by a f ≡ Err e → out_both a f ≡ refuses e
   unfolding out_both measure_by needs needs_script
   out_refused missing f e h = let x : BadValue ≡ e = cc in ap refuses x
   out_refused misfit f e h = let x : BadValue ≡ e = cc in ap refuses x
@@ -109,13 +108,13 @@ module _ (t : Tx) where
   out_refused (is v) (found s) e h = takes_not e (out_length (length s)) (sym h)
 
 -- by the first output's measure
-more_refused : {R : Type 0} (f : ℕ → Measure) (n : ℕ) (e : PsbtError) (o : Measure) → more_by f n o ≡ Refused e
-    → (o ≡ Refused e → R) → ((w : ℕ) → o ≡ Takes w → f (capped (n + w)) ≡ Refused e → R) → R
+more_refused : {R : Type 0} (f : ℕ → Measure) (n : ℕ) (e : PsbtError) (o : Measure) → more_by f n o ≡ Err e
+    → (o ≡ Err e → R) → ((w : ℕ) → o ≡ Ok w → f (capped (n + w)) ≡ Err e → R) → R
 unfolding more_by
-more_refused f n e (Refused x) h a b = a h
-more_refused f n e (Takes w) h a b = b w refl h
+more_refused f n e (Err x) h a b = a h
+more_refused f n e (Ok w) h a b = b w refl h
 
-outs_ok : (os : List Out) (T : List ℕ) (t : Tx) (n k : ℕ) → outs_measure (all_scripted os T) n ≡ Takes k
+outs_ok : (os : List Out) (T : List ℕ) (t : Tx) (n k : ℕ) → outs_measure (all_scripted os T) n ≡ Ok k
     → outputs_then os T t ≡ ahead (outs_bytes (all_scripted os T)) t
 unfolding outputs_then output_then all_scripted scripted outs_measure out_measure outs_bytes out_both
 outs_ok [] T t n k h = sym (ahead_nothing t)
@@ -125,7 +124,7 @@ outs_ok (o ∷ os) T t n k h =
     ∙ ap (ahead (out_bytes o.amount (script_bytes (script_of o.script (take script_entry T))))) (outs_ok os (drop script_entry T) t (capped (n + w)) k r)
     ∙ ahead_both (out_bytes o.amount (script_bytes (script_of o.script (take script_entry T)))) (outs_bytes (all_scripted os (drop script_entry T))) t)
 
-outs_bad : (os : List Out) (T : List ℕ) (t : Tx) (n : ℕ) (e : PsbtError) → outs_measure (all_scripted os T) n ≡ Refused e → outputs_then os T t ≡ refuses e
+outs_bad : (os : List Out) (T : List ℕ) (t : Tx) (n : ℕ) (e : PsbtError) → outs_measure (all_scripted os T) n ≡ Err e → outputs_then os T t ≡ refuses e
 unfolding outputs_then output_then all_scripted scripted outs_measure out_measure out_both
 outs_bad [] T t n e h = takes_not e n (sym h)
 outs_bad (o ∷ os) T t n e h =
@@ -147,14 +146,14 @@ module _ (s : Psbt) (ins : List In) (os : List Out) (T : List ℕ) (n : ℕ) whe
   tx_bad_input h = ap (ahead _) (inputs_bad ins _ h) ∙ ahead_refused _ BadValue
 
   module _ (h : every input_ok_def ins ≡ true) (m : ℕ) where
-    pub tx_bad_output : (e : PsbtError) → outs_measure (all_scripted os T) m ≡ Refused e → tx_with s ins os T n ≡ refuses e
+    pub tx_bad_output : (e : PsbtError) → outs_measure (all_scripted os T) m ≡ Err e → tx_with s ins os T n ≡ refuses e
     unfolding tx_with ahead
     tx_bad_output e q =
         ap (λ (t : Tx). ahead (bytes_of 4 (unsigned s.tx_version) ++ shortest (length ins)) (inputs_then ins (ahead (shortest (length os)) t)))
         (outs_bad os T (writes (bytes_of 4 n)) m e q)
         ∙ ap (ahead (bytes_of 4 (unsigned s.tx_version) ++ shortest (length ins))) (inputs_ok ins (refuses e) h)
 
-    pub tx_ok : (k : ℕ) → outs_measure (all_scripted os T) m ≡ Takes k → tx_with s ins os T n ≡ writes (tx_bytes s ins (all_scripted os T) n)
+    pub tx_ok : (k : ℕ) → outs_measure (all_scripted os T) m ≡ Ok k → tx_with s ins os T n ≡ writes (tx_bytes s ins (all_scripted os T) n)
     unfolding tx_with tx_bytes ahead
     tx_ok k q =
         ap (λ (t : Tx). ahead (bytes_of 4 (unsigned s.tx_version) ++ shortest (length ins)) (inputs_then ins (ahead (shortest (length os)) t)))

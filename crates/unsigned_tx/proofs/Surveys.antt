@@ -26,9 +26,6 @@ use Rattle.tx_bytes.specs.Bytes.{input_ok_def}
 use Rattle.unsigned_tx.specs.Surveys.{allowed_at, ok_at, survey_of}
 
 -- a field that may be absent, by the case that it is
-pub allowed_by : (x y : SizedAt) (b : Bool) → x ≡ y → b ≡ allowed_at y → b ≡ allowed_at x
-allowed_by x y b e h = h ∙ sym (ap allowed_at e)
-
 allowed_in : (w : ℕ) (f : List ℕ) (x : SizedAt) → is_there (or_final (sized_in w f x)) ≡ allowed_at x
 unfolding is_there sized_in allowed_at or_final
 allowed_in w f S.Missing = refl
@@ -51,16 +48,6 @@ module _ (x : InputAt) (a : Bool) (ea : a ≡ there_at x.txid) where
     ok_sequence k r er = er ∙ sym (rw (sym ea ∙ h, sym eb ∙ k))
 
 pub ruleset oks = (ok_no_txid, ok_no_index, ok_sequence)
-
--- the inputs so far, and one more
-module _ (ok : Bool) (x : InputAt) where
-  pub all_more : ok ≡ true → (r : Bool) → r ≡ ok_at x → r ≡ (ok && ok_at x)
-  all_more h r q = q ∙ sym (rw h)
-
-  pub all_none : ok ≡ false → ok ≡ (ok && ok_at x)
-  all_none h = rw h
-
-pub ruleset alls = (all_more, all_none)
 
 ok_in : (f : List ℕ) (x : InputAt) → ok_at x ≡ input_ok_def (input_in f x)
 unfolding ok_at input_ok_def input_in

@@ -8,8 +8,6 @@ use Rattle.all_maps_fit.specs.Alls.{AllFit, ins_of}
 use Rattle.all_maps_fit.specs.declared.SizedAt.{SizedAt}
 use Rattle.all_maps_fit.specs.declared.SizedAt.TheVariants as S
 use Rattle.all_maps_fit.specs.declared.InputAt.{InputAt}
-use Rattle.all_maps_fit.specs.declared.FoundAt.{FoundAt}
-use Rattle.all_maps_fit.specs.declared.FoundAt.TheVariants as F
 use Rattle.lock.specs.Asks.{no_asks, walk}
 use Rattle.tx_size.specs.Lengths.{scripted}
 use Rattle.tx_size.specs.Places.{there_at}
@@ -34,11 +32,6 @@ survey_of ins = record { asks = walk no_asks 0 ins; ok = every input_ok_def ins 
 pub record AllOk (f P M : List ℕ) (s : Psbt) : Type 0 where
   pub all_fit : AllFit f P M s
   pub ok : every input_ok_def (ins_of f P M s) ≡ true
-
--- a value was found
-unfoldable pub is_found : FoundAt → Bool
-is_found F.Missing = false
-is_found (F.At s n) = true
 
 -- outputs with the scripts that they have by now, T being the script table from the first one's entry on
 unfoldable pub all_scripted : List Out → List ℕ → List Out

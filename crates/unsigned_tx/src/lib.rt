@@ -6,12 +6,11 @@ ghost use Rattle.format.specs.Transaction.{set_so_far, scripts_fit, table_fits, 
 ghost use Rattle.format.specs.Told.{told_left, told_tx, told_tx_out};
 ghost use Rattle.format.specs.Tables.{view};
 ghost use Rattle.all_maps_fit.specs.Alls.{AllFit, ins_of, outs_of};
-ghost use Rattle.unsigned_tx.specs.Surveys.{allowed_at, ok_at, survey_of, AllOk, is_found};
+ghost use Rattle.unsigned_tx.specs.Surveys.{allowed_at, ok_at, survey_of, AllOk};
 
-use all_maps_fit::{FoundAt, InputAt, SizedAt};
-use format::{PSBT_OUT_SCRIPT, Psbt, PsbtError, Ruled, State, UnsignedTx};
-use lock::{Asks, LockTime};
-use tx_size::Measure;
+use all_maps_fit::{InputAt, SizedAt};
+use format::{PSBT_OUT_SCRIPT, Psbt, PsbtError, State, Written};
+use lock::Asks;
 
 // What all inputs ask of the lock, and whether each has what a transaction needs.
 #[derive(Clone, Copy)]
@@ -24,21 +23,14 @@ pub struct Survey {
 fn is_allowed(x: SizedAt) -> bool
     ensures { result ≡ allowed_at x }
 {
-    match x {
-        SizedAt::Missing => true,
-        SizedAt::Misfit => false,
-        SizedAt::At { start: _ } => true,
-    }
+    !matches!(x, SizedAt::Misfit)
 }
 
 // An input has what a transaction needs.
 fn input_ok(at: InputAt) -> bool
     ensures { result ≡ ok_at at }
 {
-    let txid = at.txid;
-    let index = at.index;
-    let sequence = at.sequence;
-    tx_size::is_there(txid) && (tx_size::is_there(index) && is_allowed(sequence))
+    tx_size::is_there(at.txid) && tx_size::is_there(at.index) && is_allowed(at.sequence)
 }
 
 // The inputs so far have, and one more.
@@ -55,25 +47,13 @@ fn survey_inputs(file: &[u8], pairs: &[u32], maps: &[u32], psbt: Psbt) -> Survey
 {
     let mut asks = lock::no_asks();
     let mut ok = true;
-    let mut i: u64 = 0;
-    while i < psbt.inputs {
+    for i in 0..psbt.inputs {
         let m = all_maps_fit::input_entry(maps, i);
         let at = all_maps_fit::input_at(file, pairs, m);
         asks = lock::see_at(file, asks, i, at);
         ok = all_ok(ok, at);
-        i = i + 1;
     }
     Survey { asks, ok }
-}
-
-// A value was found.
-fn is_found(x: FoundAt) -> bool
-    ensures { result ≡ is_found x }
-{
-    match x {
-        FoundAt::Missing => false,
-        FoundAt::At { start: _, len: _ } => true,
-    }
 }
 
 // Each output's entry of the script table is one that the setter writes for it.
@@ -81,13 +61,10 @@ fn scripts_fit(file: &[u8], pairs: &[u32], maps: &[u32], psbt: Psbt, scripts: &[
     requires { AllFit file.now pairs.now maps.now psbt }
     ensures { result ≡ scripts_fit (outs_of file.now pairs.now maps.now psbt) scripts.now }
 {
-    let mut i: u64 = 0;
-    while i < psbt.outputs {
+    for i in 0..psbt.outputs {
         let m = all_maps_fit::output_entry(maps, psbt, i);
-        let has = is_found(all_maps_fit::found_field(file, pairs, m, PSBT_OUT_SCRIPT));
-        if scripts::entry_fits(has, scripts::entry_at(scripts, i)) {
-            i = i + 1;
-        } else {
+        let found = all_maps_fit::found_field(file, pairs, m, PSBT_OUT_SCRIPT);
+        if !scripts::entry_fits(found.is_some(), scripts::entry_at(scripts, i)) {
             return false;
         }
     }
@@ -106,11 +83,7 @@ fn table_fits(
     requires { AllFit file.now pairs.now maps.now psbt }
     ensures { result ≡ table_fits state (outs_of file.now pairs.now maps.now psbt) scripts.now }
 {
-    if state.set {
-        scripts_fit(file, pairs, maps, psbt, scripts)
-    } else {
-        true
-    }
+    !state.set || scripts_fit(file, pairs, maps, psbt, scripts)
 }
 
 // The transaction with this lock time, where each input has what it needs: the first refusal of its outputs, 25, or its bytes.
@@ -123,29 +96,24 @@ fn locked_tx(
     scripts: &[u8],
     lock: u32,
     out: &mut [u8],
-) -> UnsignedTx
+) -> Result<Written, PsbtError>
     requires { AllOk file.now pairs.now maps.now psbt }
     ensures { tx_out result out.new ≡ written state out.old (tx_with psbt
         (ins_of file.now pairs.now maps.now psbt)
         (outs_of file.now pairs.now maps.now psbt) (set_so_far state scripts.now) lock) }
 {
-    match tx_size::tx_len(file, pairs, maps, psbt, state, scripts) {
-        Measure::Refused(e) => UnsignedTx::Refused(e),
-        Measure::Takes(len) => {
-            if len <= out.len() as u64 {
-                tx_bytes::put_tx(file, pairs, maps, psbt, state, scripts, lock, out);
-                UnsignedTx::Written {
-                    len: len as usize,
-                    state: State {
-                        written: true,
-                        ..state
-                    },
-                }
-            } else {
-                UnsignedTx::Refused(PsbtError::NoRoom)
-            }
-        }
+    let len = tx_size::tx_len(file, pairs, maps, psbt, state, scripts)?;
+    if len > out.len() as u64 {
+        return Err(PsbtError::NoRoom);
     }
+    tx_bytes::put_tx(file, pairs, maps, psbt, state, scripts, lock, out);
+    Ok(Written {
+        len: len as usize,
+        state: State {
+            written: true,
+            ..state
+        },
+    })
 }
 
 // The transaction where all maps are fit: the script table, then the lock.
@@ -157,27 +125,20 @@ fn fit_tx(
     state: State,
     scripts: &[u8],
     out: &mut [u8],
-) -> UnsignedTx
+) -> Result<Written, PsbtError>
     requires { AllFit file.now pairs.now maps.now psbt }
     ensures { tx_out result out.new ≡ unsigned_tx_def (view file.now pairs.now maps.now psbt) psbt state
         scripts.now out.old }
 {
-    if table_fits(file, pairs, maps, psbt, state, scripts) {
-        let seen = survey_inputs(file, pairs, maps, psbt);
-        let asks = seen.asks;
-        let fallback = psbt.fallback_locktime;
-        match lock::lock_of(lock::decide(fallback, asks)) {
-            LockTime::Refused(e) => UnsignedTx::Refused(e),
-            LockTime::Is(n) => {
-                if seen.ok {
-                    return locked_tx(file, pairs, maps, psbt, state, scripts, n, out);
-                }
-                UnsignedTx::Refused(PsbtError::BadValue)
-            }
-        }
-    } else {
-        UnsignedTx::Refused(PsbtError::BadIndex)
+    if !table_fits(file, pairs, maps, psbt, state, scripts) {
+        return Err(PsbtError::BadIndex);
     }
+    let seen = survey_inputs(file, pairs, maps, psbt);
+    let lock = lock::lock_of(lock::decide(psbt.fallback_locktime, seen.asks))?;
+    if !seen.ok {
+        return Err(PsbtError::BadValue);
+    }
+    locked_tx(file, pairs, maps, psbt, state, scripts, lock, out)
 }
 
 // The unsigned transaction of the tables' maps and of the scripts set, written from the buffer's front on.
@@ -190,12 +151,10 @@ pub fn unsigned_tx(
     state: State,
     scripts: &[u8],
     out: &mut [u8],
-) -> UnsignedTx
+) -> Result<Written, PsbtError>
     ensures { told_left (told_tx result) out.new ≡ told_tx_out
         (unsigned_tx_def (view file.now pairs.now maps.now psbt) psbt state scripts.now out.old) }
 {
-    match all_maps_fit::all_fit(file, pairs, maps, psbt) {
-        Ruled::Refused(e) => UnsignedTx::Refused(e),
-        Ruled::Passed => fit_tx(file, pairs, maps, psbt, state, scripts, out),
-    }
+    all_maps_fit::all_fit(file, pairs, maps, psbt)?;
+    fit_tx(file, pairs, maps, psbt, state, scripts, out)
 }

@@ -10,6 +10,9 @@ use text::{put, put_decimal};
 // The year that the seconds are counted from.
 const FIRST_YEAR: u64 = 1970;
 
+// The days of a year that is no leap year: no year has fewer.
+const YEAR: u64 = 365;
+
 // How many months a year has.
 const MONTHS: u64 = 12;
 
@@ -43,26 +46,14 @@ fn is_leap(y: u64) -> bool
 fn year_length(y: u64) -> u64
     ensures { result ≡ year_length y }
 {
-    if is_leap(y) {
-        return 366;
-    }
-    365
+    if is_leap(y) { 366 } else { YEAR }
 }
 
 // Whether a month has 30 days: April, June, September, November.
 fn is_short(m: u64) -> bool
     ensures { result ≡ is_short m }
 {
-    if m == 4 {
-        return true;
-    }
-    if m == 6 {
-        return true;
-    }
-    if m == 9 {
-        return true;
-    }
-    m == 11
+    matches!(m, 4 | 6 | 9 | 11)
 }
 
 // How many days month `m` of year `y` has.
@@ -70,47 +61,55 @@ fn month_length(y: u64, m: u64) -> u64
     ensures { result ≡ month_length y m }
 {
     if m == 2 {
-        if is_leap(y) {
-            return 29;
-        }
-        return 28;
+        if is_leap(y) { 29 } else { 28 }
+    } else if is_short(m) {
+        30
+    } else {
+        31
     }
-    if is_short(m) {
-        return 30;
-    }
-    31
 }
 
 // The year of a day, counted from 1 for the first of 1970.
 fn year_of(day: u64) -> Stand
     ensures { result ≡ year_of day }
 {
-    let mut y = FIRST_YEAR;
-    let mut d = day;
-    let mut long = year_length(y);
-    while long < d {
-        d = d - long;
-        y = y + 1;
-        long = year_length(y);
+    let last = FIRST_YEAR + day / YEAR;
+    let mut left = day;
+    for year in FIRST_YEAR..last {
+        let long = year_length(year);
+        if left <= long {
+            return Stand {
+                number: year,
+                day: left,
+            };
+        }
+        left -= long;
     }
-    Stand { number: y, day: d }
+    Stand {
+        number: last,
+        day: left,
+    }
 }
 
 // The month of a day of a year.
 fn month_of(year: u64, day: u64) -> Stand
     ensures { result ≡ month_of year day }
 {
-    let mut m: u64 = 1;
-    let mut d = day;
-    while m < MONTHS {
-        let long = month_length(year, m);
-        if d <= long {
-            return Stand { number: m, day: d };
+    let mut left = day;
+    for month in 1..MONTHS {
+        let long = month_length(year, month);
+        if left <= long {
+            return Stand {
+                number: month,
+                day: left,
+            };
         }
-        d = d - long;
-        m = m + 1;
+        left -= long;
     }
-    Stand { number: m, day: d }
+    Stand {
+        number: MONTHS,
+        day: left,
+    }
 }
 
 // A number in two digits or more.

@@ -11,7 +11,7 @@ use Rattle.format.specs.Parse.{ParseOut, out, parsed}
 use Rattle.format.specs.Transaction.{unsigned_tx_def, lock_decided}
 use Rattle.format.specs.declared.PsbtError.TheVariants.{TooLong}
 use Rattle.format.specs.declared.Psbt.{Psbt}
-use Rattle.format.specs.declared.Numbered.{Numbered}
+use Rattle.format.specs.Answers.{Numbered}
 use Rattle.format.specs.declared.Parsed.TheVariants.{Accepted, Refused}
 use Rattle.format.proofs.Tests.{pick_by}
 use Rattle.rooms.specs.Limits.{longest, most_maps}

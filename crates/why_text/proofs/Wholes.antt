@@ -14,13 +14,11 @@ use Rattle.format.specs.Told.{told_parsed, told_with, told_parse, told_numbered,
 use Rattle.format.specs.declared.PsbtError.{PsbtError}
 use Rattle.format.specs.declared.PsbtError.TheVariants.{TooLong}
 use Rattle.format.specs.declared.Psbt.{Psbt}
-use Rattle.format.specs.declared.Numbered.{Numbered}
-use Rattle.format.specs.declared.Lock.{Lock}
-use Rattle.format.specs.declared.UnsignedTx.{UnsignedTx}
+use Rattle.format.specs.Answers.{Decided, Numbered, UnsignedTx}
 use Rattle.format.specs.declared.Parsed.{Parsed}
 use Rattle.format.specs.declared.Parsed.TheVariants.{Accepted, Refused}
 use Rattle.format.proofs.Told.{numbered_one, lock_one, parse_out_one, tx_out_one}
-use Rattle.text.specs.Spots.{Spot, spot, lay}
+use Rattle.text.specs.Spots.{Spot, lay}
 use Rattle.text.proofs.Lays.{lay_then}
 use Rattle.text.proofs.Chains.{chain4}
 use Rattle.rooms.specs.Limits.{longest}
@@ -32,39 +30,29 @@ use Rattle.heed_lines.specs.Heeds.{heed_of, heed_line}
 use Rattle.why_text.specs.Why.{height_asked, time_asked, inputs_text, answered, accepted_text, refused_text, parsed_text, why_in, why}
 
 -- the lines of the n inputs from number i on
-abbrev lines : List ℕ → List ℕ → List ℕ → Psbt → ℕ → ℕ → List ℕ
+abbrev pub lines : List ℕ → List ℕ → List ℕ → Psbt → ℕ → ℕ → List ℕ
 lines f P M s i n = inputs_text (height_asked f P M s) (time_asked f P M s) i n
 
 -- the lines of the inputs from number i on, put from here, give those of all
-pub record Asking (at : ℕ) (D₀ f P M : List ℕ) (s : Psbt) (to : ℕ) (D : List ℕ) (i : ℕ) : Type 0 where
-  pub long : length D ≡ length D₀
-  pub is : lay (spot to D) (lines f P M s i (s.inputs - i)) ≡ lay (spot at D₀) (lines f P M s 0 s.inputs)
-
-pub asks_first : (at : ℕ) (D f P M : List ℕ) (s : Psbt) → Asking at D f P M s at D 0
-asks_first at D f P M s = let q : s.inputs - 0 ≡ s.inputs = omega arith in record { long = refl; is = rw q }
-
-module _ (at : ℕ) (D₀ f P M : List ℕ) (s : Psbt) (to : ℕ) (D : List ℕ) (i : ℕ) (k : Asking at D₀ f P M s to D i) where
-  pub asks_done : s.inputs ≤ i → spot to D ≡ lay (spot at D₀) (lines f P M s 0 s.inputs)
+module _ (a t : Spot) (f P M : List ℕ) (s : Psbt) (i : ℕ) (k : lay t (lines f P M s i (s.inputs - i)) ≡ lay a (lines f P M s 0 s.inputs)) where
+  pub asks_done : s.inputs ≤ i → t ≡ lay a (lines f P M s 0 s.inputs)
   unfolding inputs_text lay
-  asks_done h = let z : s.inputs - i ≡ 0 = omega arith in sym (ap (λ (n : ℕ). lay (spot to D) (lines f P M s i n)) z) ∙ k.is
+  asks_done h = let z : s.inputs - i ≡ 0 = omega arith in sym (ap (λ (n : ℕ). lay t (lines f P M s i n)) z) ∙ k
 
-  pub asks_more : i < s.inputs → (h t : Numbered) → told_numbered h ≡ told_numbered (required_height_locktime f (held_input f P M s i))
-      → told_numbered t ≡ told_numbered (required_time_locktime f (held_input f P M s i))
-      → (to' : ℕ) (D' : List ℕ) → length D' ≡ length D → spot to' D' ≡ lay (spot to D) (input_line i h t) → Asking at D₀ f P M s to' D' (i + 1)
+  pub asks_more : i < s.inputs → (x y : Numbered) → told_numbered x ≡ told_numbered (required_height_locktime f (held_input f P M s i))
+      → told_numbered y ≡ told_numbered (required_time_locktime f (held_input f P M s i))
+      → (u : Spot) → u ≡ lay t (input_line i x y) → lay u (lines f P M s (i + 1) (s.inputs - (i + 1))) ≡ lay a (lines f P M s 0 s.inputs)
   unfolding inputs_text height_asked time_asked
-  asks_more less h t p q to' D' l g =
+  asks_more less x y p q u g =
       let n : suc (s.inputs - (i + 1)) ≡ s.inputs - i = omega arith in
-      let g' : spot to' D' ≡ lay (spot to D) (input_line i (height_asked f P M s i) (time_asked f P M s i))
-      = g ∙ ap₂ (λ (a b : Numbered). lay (spot to D) (input_line i a b)) (numbered_one _ _ p) (numbered_one _ _ q) in
-      record {
-        long = l ∙ k.long;
-        is = lay_then _ _ _ _ _ g' refl ∙ ap (λ (m : ℕ). lay (spot to D) (lines f P M s i m)) n ∙ k.is;
-      }
+      let g' : u ≡ lay t (input_line i (height_asked f P M s i) (time_asked f P M s i))
+      = g ∙ ap₂ (λ (v w : Numbered). lay t (input_line i v w)) (numbered_one _ _ p) (numbered_one _ _ q) in
+      lay_then _ _ _ _ _ g' refl ∙ ap (λ (m : ℕ). lay t (lines f P M s i m)) n ∙ k
 
-pub ruleset asking = (asks_first, asks_done, asks_more)
+pub ruleset asking = (asks_done, asks_more)
 
 -- the head, the inputs, the verdict, and what the network makes of it
-pub accepted_text_lem : (s t₁ t₂ t₃ t₄ : Spot) (f P M : List ℕ) (x : Psbt) (B B' : List ℕ) (a : UnsignedTx) (l : Lock) (h : Heed)
+pub accepted_text_lem : (s t₁ t₂ t₃ t₄ : Spot) (f P M : List ℕ) (x : Psbt) (B B' : List ℕ) (a : UnsignedTx) (l : Decided) (h : Heed)
     → t₁ ≡ lay s (head_line x.inputs x.fallback_locktime) → t₂ ≡ lay t₁ (inputs_text (height_asked f P M x) (time_asked f P M x) 0 x.inputs)
     → told_left (told_tx a) B' ≡ told_tx_out (unsigned_tx_def (view f P M x) x fresh [] B)
     → told_lock l ≡ told_lock (lock_decided (view f P M x) x) → t₃ ≡ lay t₂ (verdict l a)
@@ -75,8 +63,8 @@ accepted_text_lem s t₁ t₂ t₃ t₄ f P M x B B' a l h p q e d r k w =
     let m : l ≡ lock_decided (view f P M x) x = lock_one l (lock_decided (view f P M x) x) d in
     let o : tx_out a B' ≡ unsigned_tx_def (view f P M x) x fresh [] B = tx_out_one (tx_out a B') (unsigned_tx_def (view f P M x) x fresh [] B) e in
     chain4 s t₁ t₂ t₃ t₄ _ _ _ _ _ p q
-    (r ∙ ap₂ (λ (k : Lock) (o : TxOut). lay t₂ (verdict k (answered o))) m o)
-    (w ∙ ap₂ (λ (k : Lock) (h : Heed). lay t₃ (heed_line k h)) m k)
+    (r ∙ ap₂ (λ (k : Decided) (o : TxOut). lay t₂ (verdict k (answered o))) m o)
+    (w ∙ ap₂ (λ (k : Decided) (h : Heed). lay t₃ (heed_line k h)) m k)
     refl
 
 -- by the parse

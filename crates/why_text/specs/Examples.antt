@@ -7,9 +7,7 @@ use Rattle.format.specs.Tables.{Held, held_input}
 use Rattle.format.specs.Lookups.{place, length_fits, of_length_def, asked, number_at}
 use Rattle.format.specs.Fields.{part_field_def, number_field, sequence, required_height_locktime, required_time_locktime}
 use Rattle.format.specs.Transaction.{lock_by, lock_decided}
-use Rattle.format.specs.declared.Numbered.{Numbered}
-use Rattle.format.specs.declared.Lock.{Lock}
-use Rattle.format.specs.declared.UnsignedTx.{UnsignedTx}
+use Rattle.format.specs.Answers.{Decided, Numbered, UnsignedTx}
 use Rattle.text.specs.Say.{say, lines}
 use Rattle.text.specs.Spelled.{digit, decimal_in, decimal}
 use Rattle.utc.specs.Dates.{leap, year_length, is_short, month_length, year_from, year_of, month_from, month_of}
@@ -41,12 +39,12 @@ unfolding height_number time_number lock_text fallback_text head_line height_tex
 asks = inputs_text
 
 -- all that a verdict is made of, but for the numbers in it
-unfoldable pub judges : Lock → UnsignedTx → List ℕ
+unfoldable pub judges : Decided → UnsignedTx → List ℕ
 unfolding lack_text tx_line outcome fallback_decided height_decided time_decided both_line too_great_line too_small_line malformed_line verdict
 judges = verdict
 
 -- all that the last line is made of
-unfoldable pub heeds : Lock → Heed → List ℕ
+unfoldable pub heeds : Decided → Heed → List ℕ
 unfolding is_final heed_from sequence_of heed_of heed_text number_decided heed_line
 heeds = heed_line
 

@@ -8,8 +8,7 @@ use Rattle.format.specs.Transaction.{TxOut, tx_out, unsigned_tx_def, lock_decide
 use Rattle.format.specs.declared.PsbtError.{PsbtError}
 use Rattle.format.specs.declared.PsbtError.TheVariants.{TooLong}
 use Rattle.format.specs.declared.Psbt.{Psbt}
-use Rattle.format.specs.declared.Numbered.{Numbered}
-use Rattle.format.specs.declared.UnsignedTx.{UnsignedTx}
+use Rattle.format.specs.Answers.{Numbered, UnsignedTx}
 use Rattle.format.specs.declared.Parsed.TheVariants.{Accepted, Refused}
 use Rattle.rooms.specs.Limits.{longest}
 use Rattle.rooms.specs.Rooms.{pair_room, map_room, tx_room, fresh}

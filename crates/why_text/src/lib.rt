@@ -12,10 +12,13 @@ use format::{Parsed, Psbt, PsbtError, State};
 use heed_lines::{heed_of, put_heed};
 use lock_lines::{put_head, put_input, put_verdict};
 use reasons::put_refused;
-use rooms::{LONGEST, file_room, map_room, pair_room, read_full, tx_room, write_full};
+use rooms::{LONGEST, map_room, pair_room, tx_room, write_put};
 use std::io::{self, Read, Write};
 use stop_lines::put_stop;
 use typed::input::{required_height_locktime, required_time_locktime};
+
+// Room for the longest text, in bytes.
+const LONGEST_TEXT: usize = 30_720;
 
 // What all inputs ask for, a line each.
 fn put_inputs(
@@ -31,12 +34,10 @@ fn put_inputs(
         (time_asked file.now pairs.now maps.now psbt) 0 psbt.inputs) }
 {
     let mut to = at;
-    let mut i: u64 = 0;
-    while i < psbt.inputs {
+    for i in 0..psbt.inputs {
         let h = required_height_locktime(file, pairs, maps, psbt, i);
         let t = required_time_locktime(file, pairs, maps, psbt, i);
         to = put_input(out, to, i, h, t);
-        i = i + 1;
     }
     to
 }
@@ -54,8 +55,7 @@ fn put_accepted(
     ensures { spot result out.new
         ≡ lay (spot at out.old) (accepted_text file.now pairs.now maps.now psbt tx.old) }
 {
-    let fallback = psbt.fallback_locktime;
-    let to = put_head(out, at, psbt.inputs, fallback);
+    let to = put_head(out, at, psbt.inputs, psbt.fallback_locktime);
     let to = put_inputs(out, to, file, pairs, maps, psbt);
     let fresh = State {
         set: false,
@@ -99,11 +99,7 @@ fn put_parsed(
         ≡ lay (spot at out.old) (why_in pairs.old maps.old tx.old file.now) }
 {
     match psbt::parse(file, pairs, maps) {
-        Parsed::Accepted {
-            psbt,
-            pairs: _,
-            maps: _,
-        } => put_accepted(out, at, file, pairs, maps, psbt, tx),
+        Parsed::Accepted { psbt, .. } => put_accepted(out, at, file, pairs, maps, psbt, tx),
         Parsed::Refused {
             error,
             pairs: p,
@@ -126,10 +122,10 @@ pub fn put_why(out: &mut [u8], at: usize, file: &[u8]) -> usize
 }
 
 // Room for every text: none is longer (`why_fits`).
-fn text_room() -> [u8; 30720]
+fn text_room() -> [u8; LONGEST_TEXT]
     ensures { 30720 ≡ length result }
 {
-    [0; 30720]
+    [0; LONGEST_TEXT]
 }
 
 // Puts the text of a file at the front of a room for every text, where it stands whole, and answers its end.
@@ -149,9 +145,6 @@ pub fn why_input<R: Read, W: Write>(from: &mut R, to: &mut W) -> io::Result<()>
     ensures err { OnErr result (IfSome (R.remaining from.old)
         (λ f. (n : ℕ) × Appends (W.contents to.old) (W.contents to.new) (take n (why (take (longest + 1) f))))) }
 {
-    let mut file = file_room();
     let mut out = text_room();
-    let got = read_full(from, &mut file)?;
-    let end = put_whole(&mut out, &file[..got]);
-    write_full(to, &out[..end])
+    write_put(from, to, &mut out, put_whole)
 }

@@ -9,34 +9,32 @@ use lib.ListN.{length, drop, length-drop}
 use Rattle.format.specs.Compact.{size, count_by_def}
 use Rattle.format.specs.declared.PsbtError.{PsbtError}
 use Rattle.format.specs.declared.PsbtError.TheVariants.{UnexpectedEof, InvalidCompactSize}
-use Rattle.format.specs.declared.Size.{Size}
-use Rattle.format.specs.declared.Size.TheVariants as Z
+use Rattle.format.specs.declared.CompactSize.{CompactSize}
+use Rattle.format.specs.Answers.{part_at, spelt, Size}
+use Rattle.std.specs.Prelude.{Ok, Err}
 use Rattle.format.proofs.Tests.{pick_by}
 use Rattle.format.proofs.Compact.{size_own}
+use Rattle.format.specs.declared.Part.{Part}
 use Rattle.wire.specs.declared.Cursor.{Cursor}
-use Rattle.wire.specs.declared.SizeRead.{SizeRead}
-use Rattle.wire.specs.declared.SizeRead.TheVariants as S
-use Rattle.wire.specs.declared.Prefixed.{Prefixed}
-use Rattle.wire.specs.declared.Prefixed.TheVariants as P
-use Rattle.wire.specs.Cursors.{cursor, remaining, size_at_by, size_at, prefixed_by, prefixed_at}
+use Rattle.wire.specs.Cursors.{cursor, remaining, size_at_by, size_at, prefixed_by, prefixed_at, Prefixed, SizeRead}
 
 -- a compact size that was read takes a byte at least, and no more than there are
-module _ (s : List ℕ) (z : Size) (v u : ℕ) (is : z ≡ size s) (e : z ≡ Z.Read v u) where
-  pub size_some : 0 < u
-  size_some = (size_own s v u (sym is ∙ e)).0
+module _ (s : List ℕ) (z : Size) (r : CompactSize) (is : z ≡ size s) (e : z ≡ Ok r) where
+  pub size_some : 0 < r.used
+  size_some = (size_own s r.value r.used (sym is ∙ e)).0
 
-  pub size_in : u ≤ length s
-  size_in = (size_own s v u (sym is ∙ e)).1
+  pub size_in : r.used ≤ length s
+  size_in = (size_own s r.value r.used (sym is ∙ e)).1
 
 -- a count is the compact size that was read
-pub count_read : (m : ℕ) (o z : Size) (n u : ℕ) → o ≡ count_by_def m z → o ≡ Z.Read n u → z ≡ Z.Read n u
+pub count_read : (m : ℕ) (o z : Size) (r' : CompactSize) → o ≡ count_by_def m z → o ≡ Ok r' → z ≡ Ok r'
 unfolding count_by_def
-count_read m o (Z.Read v w) n u is e =
-    pick_by (λ (x : Size). o ≡ x → Z.Read v w ≡ Z.Read n u) (eqb m w) _ _ (λ q h. sym h ∙ e)
-    (λ q (h : o ≡ Z.Bad InvalidCompactSize). let y : ◌≡◌ {A = ℕ} 0 1 = cc in absurd (omega arith)) is
-count_read m o (Z.Bad x) n u is e =
-    pick_by (λ (y : Size). o ≡ y → Z.Bad x ≡ Z.Read n u) (leb m 1) _ _ (λ q h. sym h ∙ e)
-    (λ q (h : o ≡ Z.Bad InvalidCompactSize). let y : ◌≡◌ {A = ℕ} 0 1 = cc in absurd (omega arith)) is
+count_read m o (Ok r) r' is e =
+    pick_by (λ (x : Size). o ≡ x → ◌≡◌ {A = Size} (Ok r) (Ok r')) (eqb m r.used) _ _ (λ q h. sym h ∙ e)
+    (λ q (h : o ≡ Err InvalidCompactSize). let y : ◌≡◌ {A = ℕ} 0 1 = cc in absurd (omega arith)) is
+count_read m o (Err x) r' is e =
+    pick_by (λ (y : Size). o ≡ y → ◌≡◌ {A = Size} (Err x) (Ok r')) (leb m 1) _ _ (λ q h. sym h ∙ e)
+    (λ q (h : o ≡ Err InvalidCompactSize). let y : ◌≡◌ {A = ℕ} 0 1 = cc in absurd (omega arith)) is
 
 -- what is left is the length without the place
 pub remaining_is : (s : List ℕ) (p : ℕ) → remaining s p ≡ length s - p
@@ -46,7 +44,7 @@ remaining_is s p = length-drop p s
 -- a compact size that was read at a place
 pub record SizeIs (s : List ℕ) (p n : ℕ) (c : Cursor) : Type 0 where
   pub used : ℕ
-  pub is : size (drop p s) ≡ Z.Read n used
+  pub is : size (drop p s) ≡ Ok (spelt n used)
   pub next : c.pos ≡ p + used
 
 module _ (s : List ℕ) (p : ℕ) (o : SizeRead) (at : o ≡ size_at s p) where
@@ -54,31 +52,32 @@ module _ (s : List ℕ) (p : ℕ) (o : SizeRead) (at : o ≡ size_at s p) where
   unfolding size_at
   at_by z q = at ∙ ap (size_at_by p) q
 
-  pub size_bad : (e : PsbtError) → o ≡ S.Bad e → size (drop p s) ≡ Z.Bad e
+  pub size_bad : (e : PsbtError) → o ≡ Err e → size (drop p s) ≡ Err e
   unfolding size_at_by
   size_bad e f = by (size (drop p s)) refl
     where
-      by : (z : Size) → size (drop p s) ≡ z → size (drop p s) ≡ Z.Bad e
-      by (Z.Bad x) q = let g : o ≡ S.Bad x = at_by (Z.Bad x) q in let y : x ≡ e = cc in rw y at q
-      by (Z.Read v u) q = let g : o ≡ S.Read v (cursor (p + u)) = at_by (Z.Read v u) q in let z : ◌≡◌ {A = ℕ} 0 1 = cc in absurd (omega arith)
+      by : (z : Size) → size (drop p s) ≡ z → size (drop p s) ≡ Err e
+      by (Err x) q = let g : o ≡ (Err x) = at_by (Err x) q in let y : x ≡ e = cc in rw y at q
+      by (Ok r) q = let g : o ≡ (Ok (r.value, (cursor (p + r.used)))) = at_by (Ok r) q in let z : ◌≡◌ {A = ℕ} 0 1 = cc in absurd (omega arith)
 
-  module _ (n : ℕ) (c : Cursor) (f : o ≡ S.Read n c) where
+  module _ (n : ℕ) (c : Cursor) (f : o ≡ Ok (n, c)) where
     pub size_is : SizeIs s p n c
     unfolding size_at_by
     size_is = by (size (drop p s)) refl
       where
         by : (z : Size) → size (drop p s) ≡ z → SizeIs s p n c
-        by (Z.Bad x) q = let g : o ≡ S.Bad x = at_by (Z.Bad x) q in let z : ◌≡◌ {A = ℕ} 0 1 = cc in absurd (omega arith)
-        by (Z.Read v u) q =
-            let g : o ≡ S.Read v (cursor (p + u)) = at_by (Z.Read v u) q in
-            let x : v ≡ n = cc in
-            let y : cursor (p + u) ≡ c = cc in
-            record { used = u; is = rw x at q; next = sym (ap (λ (d : Cursor). d.pos) y) }
+        by (Err x) q = let g : o ≡ (Err x) = at_by (Err x) q in let z : ◌≡◌ {A = ℕ} 0 1 = cc in absurd (omega arith)
+        by (Ok r) q =
+            let g : o ≡ (Ok (r.value, (cursor (p + r.used)))) = at_by (Ok r) q in
+            let t : (r.value, cursor (p + r.used)) ≡ (n, c) = cc in
+            let x : r.value ≡ n = ap (λ (d : ℕ × Cursor). d.0) t in
+            let y : cursor (p + r.used) ≡ c = ap (λ (d : ℕ × Cursor). d.1) t in
+            record { used = r.used; is = rw x at q; next = sym (ap (λ (d : Cursor). d.pos) y) }
 
 -- bytes that were read behind their length at a place
 pub record PrefixedIs (s : List ℕ) (p a n : ℕ) (c : Cursor) : Type 0 where
   pub used : ℕ
-  pub is : size (drop p s) ≡ Z.Read n used
+  pub is : size (drop p s) ≡ Ok (spelt n used)
   pub room : n ≤ remaining s (p + used)
   pub start : a ≡ p + used
   pub next : c.pos ≡ p + used + n
@@ -88,38 +87,39 @@ module _ (s : List ℕ) (p : ℕ) (o : Prefixed) (at : o ≡ prefixed_at s p) wh
   unfolding prefixed_at
   behind_by z q = at ∙ ap (prefixed_by s p) q
 
-  module _ (a n : ℕ) (c : Cursor) (f : o ≡ P.Part a n c) where
-    pub prefixed_is : PrefixedIs s p a n c
+  module _ (p' : Part) (c : Cursor) (f : o ≡ Ok (p', c)) where
+    pub prefixed_is : PrefixedIs s p p'.start p'.len c
     unfolding prefixed_by
     prefixed_is = by (size (drop p s)) refl
       where
-        by : (z : Size) → size (drop p s) ≡ z → PrefixedIs s p a n c
-        by (Z.Bad x) q = let g : o ≡ P.Bad x = behind_by (Z.Bad x) q in let z : ◌≡◌ {A = ℕ} 0 1 = cc in absurd (omega arith)
-        by (Z.Read v u) q =
-            pick_by (λ (x : Prefixed). o ≡ x → PrefixedIs s p a n c) (leb v (remaining s (p + u))) _ _
-            (λ t (h : o ≡ P.Part (p + u) v (cursor (p + u + v))).
-            let x : v ≡ n = cc in
-            let y : cursor (p + u + v) ≡ c = cc in
-            let w : p + u ≡ a = cc in
+        by : (z : Size) → size (drop p s) ≡ z → PrefixedIs s p p'.start p'.len c
+        by (Err x) q = let g : o ≡ (Err x) = behind_by (Err x) q in let z : ◌≡◌ {A = ℕ} 0 1 = cc in absurd (omega arith)
+        by (Ok r) q =
+            pick_by (λ (x : Prefixed). o ≡ x → PrefixedIs s p p'.start p'.len c) (leb r.value (remaining s (p + r.used))) _ _
+            (λ t (h : o ≡ Ok (part_at (p + r.used) r.value, (cursor (p + r.used + r.value)))).
+            let u : (part_at (p + r.used) r.value, cursor (p + r.used + r.value)) ≡ (p', c) = cc in
+            let x : r.value ≡ p'.len = ap (λ (d : Part × Cursor). d.0.len) u in
+            let y : cursor (p + r.used + r.value) ≡ c = ap (λ (d : Part × Cursor). d.1) u in
+            let w : p + r.used ≡ p'.start = ap (λ (d : Part × Cursor). d.0.start) u in
             record {
-              used = u;
+              used = r.used;
               is = rw x at q;
-              room = rw x at (leb-true v (remaining s (p + u)) t);
+              room = rw x at (leb-true r.value (remaining s (p + r.used)) t);
               start = sym w;
               next = rw x at (sym (ap (λ (d : Cursor). d.pos) y));
             })
-            (λ t (h : o ≡ P.Bad UnexpectedEof). let z : ◌≡◌ {A = ℕ} 0 1 = cc in absurd (omega arith)) (behind_by (Z.Read v u) q)
+            (λ t (h : o ≡ Err UnexpectedEof). let z : ◌≡◌ {A = ℕ} 0 1 = cc in absurd (omega arith)) (behind_by (Ok r) q)
 
-    pub prefixed_next : c.pos ≡ a + n
+    pub prefixed_next : c.pos ≡ p'.start + p'.len
     prefixed_next = let i = prefixed_is in omega arith
 
-    pub prefixed_in : a + n ≤ length s
+    pub prefixed_in : p'.start + p'.len ≤ length s
     prefixed_in =
         let i = prefixed_is in
         omega (
           arith,
-          size_some (drop p s) (size (drop p s)) n i.used refl i.is,
-          size_in (drop p s) (size (drop p s)) n i.used refl i.is,
+          size_some (drop p s) (size (drop p s)) (spelt p'.len i.used) refl i.is,
+          size_in (drop p s) (size (drop p s)) (spelt p'.len i.used) refl i.is,
           length-drop p s,
           remaining_is s (p + i.used),
         )

@@ -1,6 +1,6 @@
 -- Bytes of a slice: they stay bytes in a part of it, and fit wider numbers.
 use mathlib.Core.List.{List, [], ◌∷◌}
-use Prim.Native.Nat.{ℕ, zero, suc, ◌+◌, ◌^◌, ◌<◌}
+use Prim.Native.Nat.{ℕ, zero, suc}
 use native.Mathlib.Omega.{arith}
 use lib.ListN.{take, drop, get_or}
 use mir.Syntax.{w8, w64}
@@ -25,14 +25,6 @@ all_take zero s b = tt
 all_take (suc k) [] b = b
 all_take (suc k) (x ∷ s) b = (b.0, all_take k s b.1)
 
--- a byte that was read, as itself, as a wider number and in a sum
-pub byte_is : (s : List ℕ) (i : ℕ) → Bytes8 s → Fits w8 (get_or s i 0)
-byte_is s i b = b i
-
+-- a byte that was read, as a wider number
 pub byte_fits : (s : List ℕ) (i : ℕ) → Bytes8 s → Fits w64 (get_or s i 0)
 byte_fits s i b = record { fits = omega (arith, b i) }
-
-pub byte_plus : (s : List ℕ) (i k : ℕ) → k < 2 ^ 63 → Bytes8 s → Fits w64 (k + get_or s i 0)
-byte_plus s i k h b = record { fits = omega (arith, b i) }
-
-pub ruleset bytes = (byte_is, byte_fits, byte_plus)

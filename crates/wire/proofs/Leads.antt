@@ -1,13 +1,15 @@
 -- Laws of little-endian numbers: read from the back, byte by byte, at every width; and of the number at the front.
 use mathlib.Core.Path.{◌≡◌, sym, ◌∙◌, ap}
-use mathlib.Core.List.{List}
+use mathlib.Core.List.{List, reverse}
 use Prim.Native.Nat.{ℕ, suc, ◌+◌, ◌*◌, ◌-◌, ◌^◌, ◌≤◌, ◌<◌}
 use native.Mathlib.Nat.{lt_of_lt_of_le, pow-le-pow_right, sub-zero}
 use native.Mathlib.Omega.{arith}
 use lib.ListN.{length, take, drop, get_or, length-take, length-drop}
 use lib.Seq.{drop-cons, drop-length, take_all}
-use mir.Syntax.{Width, w8, w64}
+use mir.Syntax.{Width, w64}
 use mir.Val.{Fits, bits}
+use Rattle.std.proofs.lemmas.List.{get_or-reverse, length-reverse}
+use Rattle.std.proofs.lemmas.Grind.{get_or_default_zero}
 use Rattle.format.specs.Numbers.{le}
 use Rattle.format.proofs.Numbers.{All, Byte, le_below}
 use Rattle.wire.specs.Leads.{lead}
@@ -21,35 +23,37 @@ le_at : (s : List ℕ) (i : ℕ) → i < length s → le (drop i s) ≡ get_or s
 unfolding le
 le_at s i h = rw (drop-cons s i 0)
 
--- the number that the last i of n bytes spell
-module _ (s : List ℕ) (n i v : ℕ) (len : n ≡ length s) (is : v ≡ le (drop (n - i) s)) where
-  pub le_all : i ≤ n → n ≤ i → v ≡ le s
-  le_all h k = let q : n - i ≡ 0 = omega arith in rw q at is
+-- one byte more of at most eight, read from the back: the i last bytes spell v, and the next is b
+module _ (s : List ℕ) (i v b : ℕ) (is : v ≡ le (drop (length s - i) s)) (most : length s ≤ 8) (bytes : Bytes8 s)
+    (t : (i < length (reverse s)) × (b ≡ get_or (reverse s) i b)) where
+  pub le_in : i < length s
+  le_in = omega (arith, length-reverse s, t.0)
 
-  module _ (h : i < n) where
-    -- one byte more, in front of them
-    pub le_more : (b : ℕ) → b ≡ get_or s (n - (i + 1)) 0 → v * 256 + b ≡ le (drop (n - (i + 1)) s)
-    le_more b e =
-        let q : n - i ≡ suc (n - (i + 1)) = omega arith in
-        let f : v ≡ le (drop (suc (n - (i + 1))) s) = rw q at is in
-        omega (arith, le_at s (n - (i + 1)) (omega arith))
+  le_byte : b ≡ get_or s (length s - (i + 1)) 0
+  le_byte =
+      let q : length s - 1 - i ≡ length s - (i + 1) = omega arith in
+      let h : length s - (i + 1) < length s = omega (arith, le_in) in
+      t.1 ∙ get_or-reverse s i b le_in ∙ ap (λ (k : ℕ). get_or s k b) q ∙ get_or_default_zero s (length s - (i + 1)) b h
 
-    -- of at most eight bytes there is room for it
-    module _ (most : length s ≤ 8) (bytes : Bytes8 s) where
-      le_room : v < 256 ^ 7
-      le_room = rw is (le_most 7 (drop (n - i) s) (rw length-drop (omega arith)) (all_drop (n - i) s (bytes_all s bytes)))
+  le_room : v < 256 ^ 7
+  le_room = rw is (le_most 7 (drop (length s - i) s) (rw length-drop (omega (arith, le_in))) (all_drop (length s - i) s (bytes_all s bytes)))
 
-      pub le_mul : Fits w64 (v * 256)
-      le_mul = record { fits = omega (arith, le_room) }
+  pub le_mul : Fits w64 (v * 256)
+  le_mul = record { fits = omega (arith, le_room) }
 
-      pub le_add : (b x : ℕ) → b ≡ x → Fits w8 x → Fits w64 (v * 256 + b)
-      le_add b x e f = record { fits = omega (arith, le_room) }
+  pub le_add : Fits w64 (v * 256 + b)
+  le_add = record { fits = omega (arith, le_room, le_byte, bytes (length s - (i + 1))) }
 
-pub le_none : (s : List ℕ) (n : ℕ) → n ≡ length s → 0 ≡ le (drop (n - 0) s)
+  pub le_more : v * 256 + b ≡ le (drop (length s - (i + 1)) s)
+  le_more =
+      let h = le_in in
+      let q : length s - i ≡ suc (length s - (i + 1)) = omega arith in
+      let f : v ≡ le (drop (suc (length s - (i + 1))) s) = rw q at is in
+      omega (arith, le_at s (length s - (i + 1)) (omega arith), le_byte)
+
+pub le_none : (s : List ℕ) → 0 ≡ le (drop (length s - 0) s)
 unfolding le
-le_none s n e = rw (e, sub-zero, drop-length)
-
-pub ruleset les = (le_none, le_all, le_more, le_mul, le_add)
+le_none s = rw (sub-zero, drop-length)
 
 -- the front of a slice, as the rule for `&s[..w]` has it
 pub front_most : (w k : ℕ) (s : List ℕ) → w ≤ k → length (take w s) ≤ k

@@ -3,4 +3,3 @@ pub mod Leads
 pub mod Sizes
 pub mod Bounds
 pub mod Cursors
-pub mod Signs

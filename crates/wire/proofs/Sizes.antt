@@ -15,15 +15,16 @@ use Rattle.format.specs.Tests.{pick}
 use Rattle.format.specs.Compact.{long, size_by, size, count_by_def}
 use Rattle.format.specs.declared.PsbtError.{PsbtError}
 use Rattle.format.specs.declared.PsbtError.TheVariants.{UnexpectedEof, InvalidCompactSize}
-use Rattle.format.specs.declared.Size.{Size}
-use Rattle.format.specs.declared.Size.TheVariants.{Bad, Read}
+use Rattle.format.specs.declared.CompactSize.{CompactSize}
+use Rattle.format.specs.Answers.{spelt, Size}
+use Rattle.std.specs.Prelude.{Ok, Err}
 use Rattle.wire.specs.Leads.{lead, spelled, width, Long}
 
 -- a part to the end, as the rule for `&s[a..]` has it
 pub part_rest : (a : ℕ) (s : List ℕ) → take (length s - a) (drop a s) ≡ drop a s
 part_rest a s = take_all (length s - a) (drop a s) (rw length-drop (omega arith))
 
-pub size_none : (s : List ℕ) → length s ≡ 0 → Bad UnexpectedEof ≡ size s
+pub size_none : (s : List ℕ) → length s ≡ 0 → Err UnexpectedEof ≡ size s
 unfolding size
 size_none [] h = refl
 size_none (b ∷ s) h = absurd (omega arith)
@@ -34,36 +35,18 @@ unfolding size
 size_cons [] h = absurd (omega arith)
 size_cons (b ∷ s) h = ap (size_by b) (sym (part_rest 1 (b ∷ s)))
 
-pub size_one : (s : List ℕ) → (length s ≡ 0 → ⊥) → get_or s 0 0 < 0xfd → Read (get_or s 0 0) 1 ≡ size s
+pub size_one : (s : List ℕ) → (length s ≡ 0 → ⊥) → get_or s 0 0 < 0xfd → Ok (spelt (get_or s 0 0) 1) ≡ size s
 unfolding size_by
 size_one s some h = sym (size_cons s (omega arith) ∙ rw (lt-ltb (get_or s 0 0) 0xfd h))
 
-pub is_long : (s : List ℕ) → (length s ≡ 0 → ⊥) → 0xfd ≤ get_or s 0 0 → Long s
-is_long s some h = record { some = omega arith; above = h }
-
-pub ruleset sizes = (size_none, size_one, is_long)
+pub ruleset sizes = (size_none, size_one)
 
 -- w bytes behind the first are w + 1 bytes in all
 long_spelled : (n w v : ℕ) (r : List ℕ) → n ≡ suc (length r) → v ≡ lead w r → spelled n (suc w) v ≡ long w r
 unfolding spelled long lead
 long_spelled n w v r h e = rw (h, e, leb-suc-suc w (length r))
 
--- how many bytes follow, each way
-pub width_fd : (b : ℕ) → b ≡ 0xfd → 2 ≡ width b
-unfolding width
-width_fd b h = rw h
-
-pub width_fe : (b : ℕ) → b ≡ 0xfe → 4 ≡ width b
-unfolding width
-width_fe b h = rw h
-
-pub width_ff : (b : ℕ) → (b ≡ 0xfd → ⊥) → (b ≡ 0xfe → ⊥) → 8 ≡ width b
-unfolding width
-width_ff b x y = rw (ne_eqb b 0xfd x, ne_eqb b 0xfe y)
-
-pub ruleset widths = (width_fd, width_fe, width_ff)
-
--- they are at most eight, and the first byte leads to them
+-- the bytes that follow are at most eight, and the first byte leads to them
 pick_most : (c : Bool) (x y : ℕ) → x ≤ 8 → y ≤ 8 → pick c x y ≤ 8
 pick_most true x y h k = h
 pick_most false x y h k = k
@@ -104,23 +87,23 @@ module _ (n : ℕ) (s : List ℕ) (o : Size) (is : o ≡ size s) where
   counts : (z : Size) → o ≡ z → count_by_def n z ≡ count_by_def n (size s)
   counts z e = ap (count_by_def n) (sym e ∙ is)
 
-  module _ (e : PsbtError) (q : o ≡ Bad e) where
-    pub count_bad : n ≤ 1 → Bad e ≡ count_by_def n (size s)
+  module _ (e : PsbtError) (q : o ≡ Err e) where
+    pub count_bad : n ≤ 1 → Err e ≡ count_by_def n (size s)
     unfolding count_by_def
-    count_bad h = rw (le-leb n 1 h) at (counts (Bad e) q)
+    count_bad h = rw (le-leb n 1 h) at (counts (Err e) q)
 
-    pub count_left : 1 < n → Bad InvalidCompactSize ≡ count_by_def n (size s)
+    pub count_left : 1 < n → Err InvalidCompactSize ≡ count_by_def n (size s)
     unfolding count_by_def
-    count_left h = rw (lt-leb n 1 h) at (counts (Bad e) q)
+    count_left h = rw (lt-leb n 1 h) at (counts (Err e) q)
 
-  module _ (v u : ℕ) (q : o ≡ Read v u) where
-    pub count_whole : n ≡ u → Read v u ≡ count_by_def n (size s)
+  module _ (r : CompactSize) (q : o ≡ Ok r) where
+    pub count_whole : n ≡ r.used → Ok r ≡ count_by_def n (size s)
     unfolding count_by_def
-    count_whole h = rw (eq-eqb n u h) at (counts (Read v u) q)
+    count_whole h = rw (eq-eqb n r.used h) at (counts (Ok r) q)
 
-    pub count_over : (n ≡ u → ⊥) → Bad InvalidCompactSize ≡ count_by_def n (size s)
+    pub count_over : (n ≡ r.used → ⊥) → Err InvalidCompactSize ≡ count_by_def n (size s)
     unfolding count_by_def
-    count_over h = rw (ne_eqb n u h) at (counts (Read v u) q)
+    count_over h = rw (ne_eqb n r.used h) at (counts (Ok r) q)
 
 pub ruleset counts_by = (count_bad, count_left, count_whole, count_over)
 

@@ -7,26 +7,16 @@ ghost use Rattle.format.specs.Compact.{size, count, count_by_def};
 ghost use Rattle.wire.specs.Leads.{lead, spelled, width, Long};
 ghost use Rattle.wire.specs.Cursors.{cursor, remaining, take_at_def, size_at, prefixed_at};
 
-use format::{PsbtError, Size};
-
-// A byte as a number of 64 bits.
-fn wide(x: u8) -> u64
-    ensures { result ≡ x }
-{
-    x as u64
-}
+use format::{CompactSize, Part, PsbtError};
 
 // The number that at most eight bytes spell, the lowest byte first.
 fn le(s: &[u8]) -> u64
     requires { length s.now ≤ 8 }
     ensures { result ≡ le s.now }
 {
-    let n = s.len();
-    let mut v: u64 = 0;
-    let mut i: usize = 0;
-    while i < n {
-        i = i + 1;
-        v = v * 256 + wide(s[n - i]);
+    let mut v = 0;
+    for &b in s.iter().rev() {
+        v = v * 256 + b as u64;
     }
     v
 }
@@ -57,21 +47,17 @@ pub fn u64_from_le_bytes(s: &[u8]) -> u64
 pub fn signed(x: u32) -> i32
     ensures { result ≡ signed x }
 {
-    if x < 0x8000_0000 {
-        x as i32
-    } else {
-        (x - 0x8000_0000) as i32 + (-0x7fff_ffff - 1)
-    }
+    x.cast_signed()
 }
 
 // A number that `used` of `len` bytes spell: the refusal where there are fewer.
-fn spelled(len: usize, used: usize, value: u64) -> Size
+fn spelled(len: usize, used: usize, value: u64) -> Result<CompactSize, PsbtError>
     ensures { result ≡ spelled len used value }
 {
     if used <= len {
-        Size::Read { value, used }
+        Ok(CompactSize { value, used })
     } else {
-        Size::Bad(PsbtError::UnexpectedEof)
+        Err(PsbtError::UnexpectedEof)
     }
 }
 
@@ -79,17 +65,15 @@ fn spelled(len: usize, used: usize, value: u64) -> Size
 fn width(b: u8) -> usize
     ensures { result ≡ width b }
 {
-    if b == 0xfd {
-        return 2;
+    match b {
+        0xfd => 2,
+        0xfe => 4,
+        _ => 8,
     }
-    if b == 0xfe {
-        return 4;
-    }
-    8
 }
 
 // A compact size of more than one byte.
-fn read_long(s: &[u8]) -> Size
+fn read_long(s: &[u8]) -> Result<CompactSize, PsbtError>
     requires { Long s.now }
     ensures { result ≡ size s.now }
 {
@@ -98,18 +82,18 @@ fn read_long(s: &[u8]) -> Size
 }
 
 // A compact size at the front of some bytes: one byte up to fc, or a longer form.
-pub fn read_size(s: &[u8]) -> Size
+pub fn read_size(s: &[u8]) -> Result<CompactSize, PsbtError>
     ensures { result ≡ size s.now }
 {
-    if s.len() == 0 {
-        return Size::Bad(PsbtError::UnexpectedEof);
+    if s.is_empty() {
+        return Err(PsbtError::UnexpectedEof);
     }
     let b = s[0];
     if b < 0xfd {
-        return Size::Read {
+        return Ok(CompactSize {
             value: b as u64,
             used: 1,
-        };
+        });
     }
     read_long(s)
 }
@@ -118,31 +102,6 @@ pub fn read_size(s: &[u8]) -> Size
 #[derive(Clone, Copy)]
 pub struct Cursor {
     pub pos: usize,
-}
-
-// What taking some bytes at a cursor finds: where they stand, and the cursor behind them.
-#[derive(Clone, Copy)]
-pub enum Taken {
-    Bad(PsbtError),
-    Part { start: usize, next: Cursor },
-}
-
-// What reading a compact size at a cursor finds: its value, and the cursor behind it.
-#[derive(Clone, Copy)]
-pub enum SizeRead {
-    Bad(PsbtError),
-    Read { value: u64, next: Cursor },
-}
-
-// What reading bytes behind their length finds: where they stand, how many they are, and the cursor behind them.
-#[derive(Clone, Copy)]
-pub enum Prefixed {
-    Bad(PsbtError),
-    Part {
-        start: usize,
-        len: usize,
-        next: Cursor,
-    },
 }
 
 impl Cursor {
@@ -157,82 +116,67 @@ impl Cursor {
     pub fn remaining(self, buf: &[u8]) -> usize
         ensures { result ≡ remaining buf.now self.pos }
     {
-        let pos = self.pos;
-        if pos <= buf.len() { buf.len() - pos } else { 0 }
+        buf.len().saturating_sub(self.pos)
     }
 
-    // The next `n` bytes.
-    pub fn take(self, buf: &[u8], n: usize) -> Taken
+    // The next `n` bytes: where they stand, and the cursor behind them.
+    pub fn take(self, buf: &[u8], n: usize) -> Result<(usize, Cursor), PsbtError>
         ensures { result ≡ take_at_def buf.now self.pos n }
     {
         let start = self.pos;
         if self.remaining(buf) < n {
-            return Taken::Bad(PsbtError::UnexpectedEof);
+            return Err(PsbtError::UnexpectedEof);
         }
-        Taken::Part {
-            start,
-            next: Cursor::new(start + n),
-        }
+        Ok((start, Cursor::new(start + n)))
     }
 
-    // The compact size that stands there.
-    pub fn read_compact_size(self, buf: &[u8]) -> SizeRead
+    // The compact size that stands there, and the cursor behind it.
+    pub fn read_compact_size(self, buf: &[u8]) -> Result<(u64, Cursor), PsbtError>
         ensures { result ≡ size_at buf.now self.pos }
     {
         let pos = self.pos;
         if buf.len() < pos {
-            return SizeRead::Bad(PsbtError::UnexpectedEof);
+            return Err(PsbtError::UnexpectedEof);
         }
-        match read_size(&buf[pos..]) {
-            Size::Bad(e) => SizeRead::Bad(e),
-            Size::Read { value, used } => SizeRead::Read {
-                value,
-                next: Cursor::new(pos + used),
-            },
-        }
+        let size = read_size(&buf[pos..])?;
+        Ok((size.value, Cursor::new(pos + size.used)))
     }
 
-    // The bytes that stand there behind their length, a compact size.
-    pub fn read_len_prefixed(self, buf: &[u8]) -> Prefixed
+    // The bytes that stand there behind their length, a compact size, and the cursor behind them.
+    pub fn read_len_prefixed(self, buf: &[u8]) -> Result<(Part, Cursor), PsbtError>
         ensures { result ≡ prefixed_at buf.now self.pos }
     {
-        match self.read_compact_size(buf) {
-            SizeRead::Bad(e) => Prefixed::Bad(e),
-            SizeRead::Read { value, next } => {
-                let len = value as usize;
-                match next.take(buf, len) {
-                    Taken::Bad(e) => Prefixed::Bad(e),
-                    Taken::Part { start, next } => Prefixed::Part { start, len, next },
-                }
-            }
-        }
+        let (value, next) = self.read_compact_size(buf)?;
+        let len = value as usize;
+        let (start, end) = next.take(buf, len)?;
+        Ok((Part { start, len }, end))
     }
 }
 
 // What a count field's value of `len` bytes says, judged by its front: its first nine bytes are enough.
-pub fn count_of(len: usize, front: &[u8]) -> Size
+pub fn count_of(len: usize, front: &[u8]) -> Result<CompactSize, PsbtError>
     ensures { result ≡ count_by_def len (size front.now) }
 {
     match read_size(front) {
-        Size::Bad(e) => {
+        Err(e) => {
             if len <= 1 {
-                Size::Bad(e)
+                Err(e)
             } else {
-                Size::Bad(PsbtError::InvalidCompactSize)
+                Err(PsbtError::InvalidCompactSize)
             }
         }
-        Size::Read { value, used } => {
+        Ok(CompactSize { value, used }) => {
             if len == used {
-                Size::Read { value, used }
+                Ok(CompactSize { value, used })
             } else {
-                Size::Bad(PsbtError::InvalidCompactSize)
+                Err(PsbtError::InvalidCompactSize)
             }
         }
     }
 }
 
 // What a count field's value says: one compact size, whole.
-pub fn u64_from_compact_size(data: &[u8]) -> Size
+pub fn u64_from_compact_size(data: &[u8]) -> Result<CompactSize, PsbtError>
     ensures { result ≡ count «data».now }
 {
     count_of(data.len(), data)

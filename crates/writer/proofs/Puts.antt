@@ -1,16 +1,17 @@
 -- The writers' loops, and the shortest spelling by the number's size.
 use mathlib.Core.Path.{◌≡◌, refl, sym, ◌∙◌, ap}
-use mathlib.Core.List.{List, [], ◌∷◌}
+use mathlib.Core.List.{List, [], ◌∷◌, ◌++◌}
 use Prim.Native.Nat.{ℕ, suc, ◌+◌, ◌-◌, ◌^◌, ◌/◌, ◌%◌, ◌≤◌, ◌<◌}
-use native.Mathlib.Nat.{add-zero}
 use native.Mathlib.Numerals.{add-one}
 use native.Mathlib.Omega.{arith}
 use borrow.Author.Tests.{lt-ltb, le-ltb}
+use borrow.Rule.Slice.PartMut.{put_mid}
 use lib.Dec.{ltb}
-use lib.ListN.{length, get_or, drop, set, length-set, drop_of_length-le}
-use lib.Seq.{sets, drop-cons}
+use lib.ListN.{length, take, drop, set, length-set}
+use lib.Seq.{sets, sets-eq, take_all}
 use mir.Syntax.{w64}
 use mir.Val.{Fits}
+use Rattle.std.proofs.lemmas.Slice.{put_mid-paste}
 use Rattle.format.specs.Numbers.{bytes_of}
 use Rattle.format.specs.Compact.{shortest}
 use Rattle.format.proofs.Numbers.{length_bytes_of}
@@ -23,19 +24,7 @@ pub record Putting (B₀ : List ℕ) (at x w : ℕ) (B : List ℕ) (y j : ℕ) :
   pub long : length B ≡ length B₀
   pub is : sets B (at + j) (bytes_of (w - j) y) ≡ sets B₀ at (bytes_of w x)
 
-pub put_first : (B : List ℕ) (at x w : ℕ) → Putting B at x w B x 0
-put_first B at x w =
-    let p : at + 0 ≡ at = omega arith in
-    let q : w - 0 ≡ w = omega arith in
-    record { long = refl; is = rw (p, q) }
-
 module _ (B₀ : List ℕ) (at x w : ℕ) (B : List ℕ) (y j : ℕ) (k : Putting B₀ at x w B y j) where
-  pub put_in : at + w ≤ length B₀ → j < w → at + j < length B
-  put_in h l = omega (arith, k.long)
-
-  pub put_fits : at + w ≤ length B₀ → length B₀ < 2 ^ 64 → j < w → Fits w64 (at + j)
-  put_fits h g l = record { fits = omega arith }
-
   pub put_more : j < w → Putting B₀ at x w (set B (at + j) (y % 256)) (y / 256) (j + 1)
   unfolding bytes_of
   put_more h =
@@ -47,36 +36,15 @@ module _ (B₀ : List ℕ) (at x w : ℕ) (B : List ℕ) (y j : ℕ) (k : Puttin
   unfolding bytes_of wrote
   put_done h = let q : w - j ≡ 0 = omega arith in sym (ap (λ (n : ℕ). sets B (at + j) (bytes_of n y)) q) ∙ k.is
 
-pub ruleset puts = (put_first, put_in, put_fits, put_more, put_done)
+pub ruleset puts = (put_more, put_done)
 
--- what is still to be copied, copied from here, gives the whole
-pub record Copying (D₀ : List ℕ) (at : ℕ) (S D : List ℕ) (j : ℕ) : Type 0 where
-  pub long : length D ≡ length D₀
-  pub is : sets D (at + j) (drop j S) ≡ sets D₀ at S
-
-pub copy_first : (D : List ℕ) (at : ℕ) (S : List ℕ) → Copying D at S D 0
-copy_first D at S = record { long = refl; is = rw (add-zero at) }
-
-module _ (D₀ : List ℕ) (at : ℕ) (S D : List ℕ) (j : ℕ) (k : Copying D₀ at S D j) where
-  pub copy_in : at + length S ≤ length D₀ → j < length S → at + j < length D
-  copy_in h l = omega (arith, k.long)
-
-  pub copy_fits : at + length S ≤ length D₀ → length D₀ < 2 ^ 64 → j < length S → Fits w64 (at + j)
-  copy_fits h g l = record { fits = omega arith }
-
-  pub copy_more : j < length S → Copying D₀ at S (set D (at + j) (get_or S j 0)) (j + 1)
-  copy_more h =
-      let p : at + (j + 1) ≡ suc (at + j) = omega arith in
-      record {
-        long = length-set D (at + j) (get_or S j 0) ∙ k.long;
-        is = rw (p, add-one j) (sym (ap (λ (l : List ℕ). sets D (at + j) l) (drop-cons S j 0 h)) ∙ k.is);
-      }
-
-  pub copy_done : length S ≤ j → D ≡ wrote D₀ at S
-  unfolding wrote
-  copy_done h = sym (ap (λ (l : List ℕ). sets D (at + j) l) (drop_of_length-le S h)) ∙ k.is
-
-pub ruleset copies = (copy_first, copy_in, copy_fits, copy_more, copy_done)
+-- a part that was copied over is written there
+pub copied : (B S C : List ℕ) (at : ℕ) → at + length S ≤ length B → C ≡ S → put_mid at (at + length S - at) B C ≡ wrote B at S
+unfolding wrote
+copied B S C at h e =
+    put_mid-paste at (at + length S - at) B C S (length S) e (omega arith) refl
+    ∙ ap (λ (l : List ℕ). take at B ++ l ++ drop (at + length S) B) (take_all (length S) S (omega arith))
+    ∙ sym (sets-eq S B at h)
 
 -- a byte and then more
 module _ (B : List ℕ) (at w : ℕ) (h : at + (1 + w) ≤ length B) where

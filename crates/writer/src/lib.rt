@@ -12,11 +12,9 @@ pub fn put_le(buf: &mut [u8], at: usize, value: u64, width: usize)
     ensures { buf.new ≡ wrote buf.old at (bytes_of width value) }
 {
     let mut left = value;
-    let mut j: usize = 0;
-    while j < width {
+    for j in 0..width {
         buf[at + j] = (left % 256) as u8;
-        left = left / 256;
-        j = j + 1;
+        left /= 256;
     }
 }
 
@@ -70,11 +68,7 @@ pub fn put_bytes(buf: &mut [u8], at: usize, src: &[u8])
     requires { at + length src.now ≤ length buf.old }
     ensures { buf.new ≡ wrote buf.old at src.now }
 {
-    let mut j: usize = 0;
-    while j < src.len() {
-        buf[at + j] = src[j];
-        j = j + 1;
-    }
+    buf[at..at + src.len()].copy_from_slice(src);
 }
 
 // The 32 bits of a signed number.

@@ -1,16 +1,10 @@
--- `dump_text::dump_input` meets its contract: what was read is the input, as far as there is room, and its whole dump is written, or the front of it.
-use Rattle.std.proofs.Common.{rules, ◌+◌}
-use Rattle.rooms.specs.Limits.{longest}
-use Rattle.rooms.proofs.Inputs.{input_is, text_written, front_written}
+-- `dump_text::dump_input` meets its contract: the text that is written is `dump`.
+use Rattle.std.proofs.Common.{rules}
 use Rattle.dump_text.specs.Dump.{dump}
 use Rattle.dump_text.proofs.dump_input.Goals as goal
 
 pub returns-clause-ok : goal.returns-clause-ok
-returns-clause-ok g c =
-    text_written _ _ _ _ dump (longest + 1) _ _ _ (search rules) (input_is _ _ _ _ c.in_ok-got.ensures.bound c.in_ok-got.ensures.bytes c.in_ok-got.ensures.end)
-    c.put_whole-end.ensures.out_after c.write_full.ensures.ok
+returns-clause-ok g c = c.write_put.ensures.ok dump (λ a b r d l p. search rules)
 
 pub returns-clause-err : goal.returns-clause-err
-returns-clause-err g c =
-    front_written _ _ _ _ dump (longest + 1) _ _ _ (search rules) (input_is _ _ _ _ c.in_ok-got.ensures.bound c.in_ok-got.ensures.bytes c.in_ok-got.ensures.end)
-    c.put_whole-end.ensures.out_after c.write_full.ensures.err
+returns-clause-err g c = c.write_put.ensures.err dump (λ a b r d l p. search rules)

@@ -3,8 +3,8 @@ use Rattle.std.proofs.Common.{rules}
 use Rattle.dump_text.proofs.Pieces.{lasts}
 use Rattle.dump_text.proofs.put_unsigned.Goals as goal
 
-pub returns-in-Refused : goal.returns-in-Refused
-returns-in-Refused c = search (rules, lasts)
+pub returns-in-Err : goal.returns-in-Err
+returns-in-Err c = search (rules, lasts)
 
-pub returns-in-Written : goal.returns-in-Written
-returns-in-Written c = search (rules, lasts)
+pub returns-in-Ok : goal.returns-in-Ok
+returns-in-Ok c = search (rules, lasts)

@@ -4,10 +4,10 @@ use Rattle.lock_lines.proofs.Answers.{fallback_by}
 use Rattle.lock_lines.specs.Lines.{fallback_text}
 use Rattle.lock_lines.proofs.put_fallback.Goals as goal
 
-pub returns-in-Absent : goal.returns-in-Absent
+pub returns-in-None : goal.returns-in-None
 unfolding fallback_text
-returns-in-Absent c = search (rules, fallback_by)
+returns-in-None c = search (rules, fallback_by)
 
-pub returns-in-Present : goal.returns-in-Present
+pub returns-in-Some : goal.returns-in-Some
 unfolding fallback_text
-returns-in-Present c = search (rules, fallback_by)
+returns-in-Some c = search (rules, fallback_by)

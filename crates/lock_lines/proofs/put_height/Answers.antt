@@ -4,14 +4,14 @@ use Rattle.lock_lines.proofs.Answers.{height_by_lem}
 use Rattle.lock_lines.specs.Lines.{height_text}
 use Rattle.lock_lines.proofs.put_height.Goals as goal
 
-pub returns-in-Refused : goal.returns-in-Refused
+pub returns-in-Err : goal.returns-in-Err
 unfolding height_text
-returns-in-Refused c = search (rules, height_by_lem)
+returns-in-Err c = search (rules, height_by_lem)
 
-pub returns-in-Absent : goal.returns-in-Absent
+pub returns-in-Ok-None : goal.returns-in-Ok-None
 unfolding height_text
-returns-in-Absent c = search (rules, height_by_lem)
+returns-in-Ok-None c = search (rules, height_by_lem)
 
-pub returns-in-Is : goal.returns-in-Is
+pub returns-in-Ok-Some : goal.returns-in-Ok-Some
 unfolding height_text
-returns-in-Is c = search (rules, height_by_lem)
+returns-in-Ok-Some c = search (rules, height_by_lem)

@@ -4,14 +4,14 @@ use Rattle.lock_lines.proofs.Answers.{time_by_lem}
 use Rattle.lock_lines.specs.Lines.{time_text}
 use Rattle.lock_lines.proofs.put_time.Goals as goal
 
-pub returns-in-Refused : goal.returns-in-Refused
+pub returns-in-Err : goal.returns-in-Err
 unfolding time_text
-returns-in-Refused c = search (rules, time_by_lem)
+returns-in-Err c = search (rules, time_by_lem)
 
-pub returns-in-Absent : goal.returns-in-Absent
+pub returns-in-Ok-None : goal.returns-in-Ok-None
 unfolding time_text
-returns-in-Absent c = search (rules, time_by_lem)
+returns-in-Ok-None c = search (rules, time_by_lem)
 
-pub returns-in-Is : goal.returns-in-Is
+pub returns-in-Ok-Some : goal.returns-in-Ok-Some
 unfolding time_text
-returns-in-Is c = search (rules, time_by_lem)
+returns-in-Ok-Some c = search (rules, time_by_lem)

@@ -9,59 +9,59 @@ maps-init c = search (rules, loops)
 
 pub write_pair-requires : goal.write_pair-requires
 write_pair-requires c =
-    search (one_writes, c.has_pair_room.ensures, c.in-One.is, c.step_at-x.ensures, c.loop-e.invariant, c.requires)
+    search (one_writes, c.has_pair_room.ensures, (rw c.in-One.is at c.in-Ok.is), c.step_at.ensures, c.loop-x.invariant, c.requires)
 
 pub overflow_add-le : goal.overflow_add-le
-overflow_add-le c = search (one_key, c.in-One.is, c.step_at-x.ensures, c.loop-e.invariant, c.requires)
+overflow_add-le c = search (one_key, (rw c.in-One.is at c.in-Ok.is), c.step_at.ensures, c.loop-x.invariant, c.requires)
 
 pub overflow_add-at : goal.overflow_add-at
-overflow_add-at c = search (one_value, c.in-One.is, c.step_at-x.ensures, c.loop-e.invariant, c.requires)
+overflow_add-at c = search (one_value, (rw c.in-One.is at c.in-Ok.is), c.step_at.ensures, c.loop-x.invariant, c.requires)
 
 pub slice_bounds-note_pair-end : goal.slice_bounds-note_pair-end
-slice_bounds-note_pair-end c = search (rules, one_key_in, c.in-One.is, c.step_at-x.ensures, c.loop-e.invariant)
+slice_bounds-note_pair-end c = search (rules, one_key_in, (rw c.in-One.is at c.in-Ok.is), c.step_at.ensures, c.loop-x.invariant)
 
 pub slice_bounds-note_pair-end-in-One : goal.slice_bounds-note_pair-end-in-One
-slice_bounds-note_pair-end-in-One c = search (rules, one_value_in, c.in-One.is, c.step_at-x.ensures, c.loop-e.invariant)
+slice_bounds-note_pair-end-in-One c = search (rules, one_value_in, (rw c.in-One.is at c.in-Ok.is), c.step_at.ensures, c.loop-x.invariant)
 
-pub loop-e-smaller : goal.loop-e-smaller
-loop-e-smaller c = search (one_less, c.in-One.is, c.step_at-x.ensures, c.loop-e.invariant)
+pub loop-x-smaller : goal.loop-x-smaller
+loop-x-smaller c = search (one_less, (rw c.in-One.is at c.in-Ok.is), c.step_at.ensures, c.loop-x.invariant)
 
-pub loop-e-preserved : goal.loop-e-preserved
-loop-e-preserved c =
+pub loop-x-preserved : goal.loop-x-preserved
+loop-x-preserved c =
     search (
       one_again,
       c.note_pair-known.ensures,
       c.write_pair.ensures,
       c.has_pair_room.ensures,
-      c.in-One.is,
-      c.step_at-x.ensures,
-      c.loop-e.invariant,
+      (rw c.in-One.is at c.in-Ok.is),
+      c.step_at.ensures,
+      c.loop-x.invariant,
     )
 
 pub write_map-requires : goal.write_map-requires
 write_map-requires c =
     search (
       map_writes,
-      c.step_at-x.ensures,
-      c.loop-e.invariant,
+      c.step_at.ensures,
+      c.loop-x.invariant,
       c.has_map_room.ensures,
       c.maps.invariant,
       c.requires,
     )
 
 pub maps-smaller : goal.maps-smaller
-maps-smaller c = search (rules, loops, c.in-Over.is, c.step_at-x.ensures, c.loop-e.invariant)
+maps-smaller c = search (rules, loops, (rw c.in-Over.is at c.in-Ok.is), c.step_at.ensures, c.loop-x.invariant)
 
 pub maps-preserved : goal.maps-preserved
 maps-preserved c =
     search (
       maps_next,
-      c.in-Map.is,
-      c.after_map-t.ensures,
+      (rw c.in-Map.is at c.in-Ok-after_map.is),
+      c.after_map.ensures,
       c.write_map.ensures,
-      c.in-Over.is,
-      c.step_at-x.ensures,
-      c.loop-e.invariant,
+      (rw c.in-Over.is at c.in-Ok.is),
+      c.step_at.ensures,
+      c.loop-x.invariant,
       c.has_map_room.ensures,
       c.maps.invariant,
     )
@@ -69,31 +69,31 @@ maps-preserved c =
 pub returns-then-not-has_map_room : goal.returns-then-not-has_map_room
 returns-then-not-has_map_room c = search (rules, loops)
 
-pub returns-in-Stop : goal.returns-in-Stop
-returns-in-Stop c = search (rules, loops)
+pub returns-in-Err : goal.returns-in-Err
+returns-in-Err c = search (rules, loops)
 
 pub returns-then-not-has_pair_room : goal.returns-then-not-has_pair_room
 returns-then-not-has_pair_room c =
     search (
       exit_22,
       c.has_pair_room.ensures,
-      c.in-One.is,
-      c.step_at-x.ensures,
-      c.loop-e.invariant,
+      (rw c.in-One.is at c.in-Ok.is),
+      c.step_at.ensures,
+      c.loop-x.invariant,
       c.has_map_room.ensures,
       c.maps.invariant,
     )
 
-pub returns-in-Stop-t : goal.returns-in-Stop-t
-returns-in-Stop-t c =
+pub returns-in-Err-after_map : goal.returns-in-Err-after_map
+returns-in-Err-after_map c =
     search (
       exit_after,
-      c.in-Stop-t.is,
-      c.after_map-t.ensures,
+      c.in-Err-after_map.is,
+      c.after_map.ensures,
       c.write_map.ensures,
-      c.in-Over.is,
-      c.step_at-x.ensures,
-      c.loop-e.invariant,
+      (rw c.in-Over.is at c.in-Ok.is),
+      c.step_at.ensures,
+      c.loop-x.invariant,
       c.has_map_room.ensures,
       c.maps.invariant,
     )
@@ -102,12 +102,12 @@ pub returns-in-Done : goal.returns-in-Done
 returns-in-Done c =
     search (
       exit_done,
-      c.in-Done.is,
-      c.after_map-t.ensures,
+      (rw c.in-Done.is at c.in-Ok-after_map.is),
+      c.after_map.ensures,
       c.write_map.ensures,
-      c.in-Over.is,
-      c.step_at-x.ensures,
-      c.loop-e.invariant,
+      (rw c.in-Over.is at c.in-Ok.is),
+      c.step_at.ensures,
+      c.loop-x.invariant,
       c.has_map_room.ensures,
       c.maps.invariant,
     )

@@ -3,12 +3,12 @@ use Rattle.std.proofs.Common.{length, ◌-◌}
 use Rattle.psbt.proofs.Loops.{AtMaps, InMap}
 use Rattle.psbt.proofs.read_maps.Given as goal
 
-abbrev pub invariant-loop-e : goal.invariant-loop-e
-invariant-loop-e l =
+abbrev pub invariant-loop-x : goal.invariant-loop-x
+invariant-loop-x l =
     InMap l.file l.initial.pairs l.maps l.initial.known l.initial.at l.initial.p l.m l.first l.initial.la l.initial.le l.pairs l.known l.at l.p l.la l.le
 
-abbrev pub decreases-loop-e : goal.decreases-loop-e
-decreases-loop-e l = length l.file - l.at
+abbrev pub decreases-loop-x : goal.decreases-loop-x
+decreases-loop-x l = length l.file - l.at
 
 abbrev pub invariant-maps : goal.invariant-maps
 invariant-maps l = AtMaps l.file l.initial.pairs l.initial.maps l.pairs l.maps l.known l.at l.p l.m

@@ -1,13 +1,18 @@
 -- `setter::named_count` meets its contract.
-use Rattle.std.proofs.Common.{rules}
-use Rattle.setter.proofs.Records.{count_one, counts}
+use Rattle.std.proofs.Common.{rules, tests}
+use Rattle.std.proofs.lemmas.Iterator.{YieldsList-from_take}
+use Rattle.std.proofs.lemmas.Iterator.Consumers.{YieldsList-at, YieldsList-from_filter, count_from_yields_List}
+use Rattle.setter.proofs.Records.{two_named, held_yields}
 use Rattle.setter.proofs.named_count.Goals as goal
 
-pub loop-k-preserved-then-a-i : goal.loop-k-preserved-then-a-i
-loop-k-preserved-then-a-i c = search (rules, count_one, counts)
-
-pub loop-k-preserved : goal.loop-k-preserved
-loop-k-preserved c = search (rules, counts)
-
 pub returns : goal.returns
-returns c = search (rules, counts)
+returns g c =
+    two_named _ _ _
+    (count_from_yields_List c.take.result c.count.result c.count.ensures.ran
+    (YieldsList-from_take 2
+    (YieldsList-at c.take.ensures.source
+    (YieldsList-from_filter _ _
+    (YieldsList-at c.filter.ensures.source (held_yields g.L.Assignments.held _))
+    c.filter.ensures.closure
+    (λ x r q k. search (rules, tests))))
+    c.take.ensures.count))

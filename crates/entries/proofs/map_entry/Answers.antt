@@ -1,0 +1,13 @@
+-- `entries::map_entry` meets its contract.
+use Rattle.std.proofs.Common.{rules}
+use Rattle.entries.proofs.Tables.{reads}
+use Rattle.entries.proofs.map_entry.Goals as goal
+
+pub overflow_mul-i : goal.overflow_mul-i
+overflow_mul-i c = search (rules, reads)
+
+pub map_from-requires : goal.map_from-requires
+map_from-requires c = search (rules, reads)
+
+pub returns : goal.returns
+returns c = search (rules, reads)

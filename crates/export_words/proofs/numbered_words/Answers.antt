@@ -1,0 +1,14 @@
+-- `export_words::numbered_words` meets its contract: each case by its words.
+use Rattle.std.proofs.Common.{rules}
+use Rattle.format.specs.Numbers.{unsigned}
+use Rattle.format.specs.Told.{told_numbered}
+use Rattle.export_words.specs.Words.{words_told, words_of, word}
+use Rattle.export_words.proofs.numbered_words.Goals as goal
+
+pub returns-in-None : goal.returns-in-None
+unfolding told_numbered words_told words_of word unsigned
+returns-in-None c = search rules
+
+pub returns-in-Some : goal.returns-in-Some
+unfolding told_numbered words_told words_of word unsigned
+returns-in-Some c = search rules

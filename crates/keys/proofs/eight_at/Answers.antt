@@ -1,0 +1,7 @@
+-- `keys::eight_at` meets its contract: the number of a part that is eight bytes long.
+use Rattle.std.proofs.Common.{rules}
+use Rattle.keys.proofs.Blocks.{numbers}
+use Rattle.keys.proofs.eight_at.Goals as goal
+
+pub returns : goal.returns
+returns c = search (rules, numbers)

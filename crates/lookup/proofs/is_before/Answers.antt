@@ -1,0 +1,7 @@
+-- `lookup::is_before` meets its contract.
+use Rattle.std.proofs.Common.{rules}
+use Rattle.lookup.proofs.Lists.{types}
+use Rattle.lookup.proofs.is_before.Goals as goal
+
+pub returns : goal.returns
+returns c = search (rules, types)

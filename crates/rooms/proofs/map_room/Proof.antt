@@ -1,7 +1,0 @@
--- `rooms::map_room` meets its contract.
-use Rattle.rooms.proofs.Zeros.{room, room_is}
-use Rattle.rooms.proofs.map_room.Statement.{statement}
-use Rattle.rooms.proofs.map_room.Tie as tie
-
-pub map_room_spec : {M : Type 1} → statement M
-map_room_spec = tie.close (tie.spec (λ c. (room_is _, room _)))

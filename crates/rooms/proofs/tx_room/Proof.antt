@@ -1,7 +1,0 @@
--- `rooms::tx_room` meets its contract.
-use Rattle.rooms.proofs.Zeros.{room, room_is}
-use Rattle.rooms.proofs.tx_room.Statement.{statement}
-use Rattle.rooms.proofs.tx_room.Tie as tie
-
-pub tx_room_spec : {M : Type 1} → statement M
-tx_room_spec = tie.close (tie.spec (λ c. (room_is _, room _)))

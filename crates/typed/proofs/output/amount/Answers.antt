@@ -1,0 +1,18 @@
+-- `typed::output::amount` meets its contract: the map first, and then what is asked of it.
+use Rattle.std.proofs.Common.{rules}
+use Rattle.format.specs.Fields.{amount}
+use Rattle.format.proofs.Answers.{hands_on}
+use Rattle.fitness.proofs.Maps.{fits, output_held}
+use Rattle.typed.proofs.Fields.{asked_of}
+use Rattle.typed.proofs.output.amount.Goals as goal
+
+pub returns-in_err-m : goal.returns-in_err-m
+unfolding amount
+returns-in_err-m c = rw (hands_on _ c.in_err-m.field-0.0 c.from_residual.ensures.1) (search (rules, output_held, asked_of, c.in_err-m.was))
+
+pub number_field-requires-clause-within : goal.number_field-requires-clause-within
+number_field-requires-clause-within c = search (rules, fits, c.in_ok-m.was)
+
+pub returns : goal.returns
+unfolding amount
+returns c = search (rules, output_held, asked_of, c.in_ok-m.was)

@@ -1,0 +1,10 @@
+-- `why_text::put_why` meets its contract.
+use Rattle.std.proofs.Common.{rules}
+use Rattle.why_text.proofs.Wholes.{by_length}
+use Rattle.why_text.proofs.put_why.Goals as goal
+
+pub returns-then-file-gt-LONGEST : goal.returns-then-file-gt-LONGEST
+returns-then-file-gt-LONGEST c = search (rules, by_length)
+
+pub returns : goal.returns
+returns c = search (rules, by_length)
