@@ -11,6 +11,7 @@ fn dump_of(rt: &HostRuntime, path: &str) -> io::Result<()> {
     dump_input(&mut file, &mut io::writer(rt))
 }
 
+// Kept: `why_runs` is the same but for one call; to share these lines would take a third crate and a function as an argument.
 // The dumps of all files that are named, in their order. A file that can't be read is said on standard error, and the run goes on; it
 // ends with the last such error.
 fn main(rt: HostRuntime) -> io::Result<()> {

@@ -200,6 +200,8 @@ fn put_parsed(
 }
 
 // Puts the text of a file at `at`, as far as there is room, and answers the place behind it.
+// Kept: `why_text::put_why` has the same rooms. One function over both would take a closure of six lent slices with the promise
+// of each text, longer than the lines that it saves.
 pub fn put_dump(out: &mut [u8], at: usize, file: &[u8]) -> usize
     ensures { spot result out.new ≡ lay (spot at out.old) (dump file.now) }
 {

@@ -13,6 +13,8 @@ use format::{MapEntry, PairEntry};
 const PAIR_WORDS: usize = 4;
 
 // How many words a map's entry takes.
+// Kept: pairs and maps have functions apart, of a few lines each. A trait over both would have to hand over arrays of as many
+// words as each kind says, and an array's length can't be computed from a type's constant.
 const MAP_WORDS: usize = 2;
 
 // A table of entries of `words` words each has entry number `n` whole.

@@ -43,8 +43,7 @@ const UNSEEN: Seen = Seen {
 };
 
 // What is known of a file so far: the global fields, how many inputs and outputs are still to come, what the output that
-// is read has, what the rules say of the outputs so far, and the kind of the map that is read (last, where it leaves
-// no gap before the wider fields: copying one costs time at each pair).
+// is read has, what the rules say of the outputs so far, and the kind of the map that is read.
 #[derive(Clone, Copy)]
 pub struct Known {
     pub globals: Globals,
@@ -73,6 +72,8 @@ fn size_value(x: Result<CompactSize, PsbtError>) -> u64
 }
 
 // A field of at most four bytes after a pair.
+// Kept: this one, `noted_count` and `noted_there` are lines that differ in a type. One over all three would take what reads the
+// value as a closure, and its clauses would be longer than they.
 fn noted(key_type: u8, key: &[u8], value: &[u8], old: Option<u32>) -> Option<u32>
     ensures { result ≡ noted key_type key.now value.now old }
 {

@@ -8,7 +8,7 @@ ghost use Rattle.format.specs.Tables.{held, holds};
 ghost use Rattle.format.specs.Lookups.{place, length_fits, of_length_def, asked, look, part, number_at, list, nth, key_part, value_part};
 ghost use Rattle.format.specs.Told.{told_listing, told_looked, told_nth};
 ghost use Rattle.entries.specs.Words.{pair_count};
-ghost use Rattle.fitness.specs.Fits.{entries_of, held_of, Within};
+ghost use Rattle.fitness.specs.Fits.{entries_of};
 ghost use Rattle.lookup.specs.Finds.{length_of, Short};
 ghost use Rattle.lookup.specs.Lists.{is_before, is_listed};
 

@@ -1,4 +1,5 @@
 // Typed fields of inputs and outputs: thin calls over the lookup of a part and of a number.
+// Kept: each field has a function of its own, two lines over `part_field` or `number_field`: the documents name each with its promise.
 #![tactic(auto)]
 
 ghost use Rattle.std.specs.Prelude.{◌≡◌, ◌+◌, ◌≤◌};

@@ -11,6 +11,7 @@ fn text_of(rt: &HostRuntime, path: &str) -> io::Result<()> {
     why_input(&mut file, &mut io::writer(rt))
 }
 
+// Kept: `dump_runs` is the same but for one call, and says why it stands apart.
 // The texts of all files that are named, in their order. A file that can't be read is said on standard error, and the run goes on; it
 // ends with the last such error.
 fn main(rt: HostRuntime) -> io::Result<()> {

@@ -109,6 +109,7 @@ fn put_parsed(
 }
 
 // Puts the text of a file at `at`, as far as there is room, and answers the place behind it.
+// Kept: `dump_text::put_dump` has the same rooms, and says why it stands apart.
 pub fn put_why(out: &mut [u8], at: usize, file: &[u8]) -> usize
     ensures { spot result out.new ≡ lay (spot at out.old) (why file.now) }
 {
