@@ -13,7 +13,6 @@ use Rattle.format.specs.Entries.{key_in_def, value_in_def, shown}
 use Rattle.format.specs.Lookups.{place}
 use Rattle.format.specs.Locks.{is, sized_to}
 use Rattle.format.specs.Scripts.{out_of}
-use Rattle.format.specs.declared.PsbtError.{PsbtError}
 use Rattle.format.specs.declared.PairEntry.{PairEntry}
 use Rattle.format.specs.declared.MapEntry.{MapEntry}
 use Rattle.format.specs.declared.Psbt.{Psbt}

@@ -1,18 +1,23 @@
 -- Laws of words in a lent slice.
-use mathlib.Core.Path.{◌≡◌, refl, ap}
+use mathlib.Core.Path.{◌≡◌, refl, ap, ◌∙◌, subst}
 use mathlib.Core.Bool.{Bool, true, false}
 use Rattle.std.specs.Int.{from_bool}
 use mathlib.Core.List.{List, ◌++◌}
-use Prim.Native.Nat.{ℕ, ◌%◌, ◌≤◌, ◌<◌}
+use Prim.Native.Nat.{ℕ, ◌+◌, ◌%◌, ◌≤◌, ◌<◌}
+use native.Mathlib.Nat.{zero-add}
+use native.Mathlib.Omega.{arith}
 use borrow.Author.Tests.{eq-eqb, ne_eqb, le-leb, lt-leb}
 use lib.Dec.{eqb}
 use lib.IntN.{ℤ}
-use lib.ListN.{length, get_or, drop}
+use lib.ListN.{length, get_or, set, drop}
+use lib.Seq.{sets-eq}
 use Rattle.format.specs.Numbers.{signed, unsigned}
 use Rattle.format.specs.Refusals.{number_of}
 use Rattle.format.specs.Told.{flag, maybe_value}
 use Rattle.format.specs.Answers.{Maybe}
 use Rattle.std.specs.Prelude.{Some, None, MatchOption}
+use Rattle.writer.specs.Writes.{wrote}
+use Rattle.writer.proofs.Puts.{Copying, copy_more, copy_done}
 use Rattle.export_words.specs.Words.{word, exported, answered_with, no_value, maybe_of, psbt_in, is_report}
 
 -- a number that may be absent
@@ -46,11 +51,17 @@ module _ (A : List ℕ) (n : ℕ) (ws : List ℕ) where
   unfolding answered_with number_of
   too_short h = rw (lt-leb 8 (length A) h)
 
-  pub words_put : 8 ≤ length A → (B : List ℕ) → B ≡ ws → exported n (B ++ drop 8 A) ≡ answered_with A n ws
-  unfolding answered_with
-  words_put h B e = rw (le-leb 8 (length A) h) (ap (λ (l : List ℕ). exported n (l ++ drop 8 A)) e)
+  module _ (e : length ws ≡ 8) (D : List ℕ) (k : ℕ) (c : Copying A 0 ws D k) where
+    pub words_more : k < 8 → Copying A 0 ws (set D k (get_or ws k 0)) (k + 1)
+    words_more h = subst (λ (i : ℕ). Copying A 0 ws (set D i (get_or ws k 0)) (k + 1)) (zero-add k) (copy_more A 0 ws D k c (omega arith))
 
-pub ruleset puts = (too_short, words_put)
+    pub words_put : 8 ≤ length A → 8 ≤ k → exported n D ≡ answered_with A n ws
+    unfolding answered_with wrote
+    words_put h l =
+        rw (le-leb 8 (length A) h)
+        (ap (exported n) (copy_done A 0 ws D k c (omega arith) ∙ sets-eq ws A 0 (omega arith) ∙ ap (λ (i : ℕ). ws ++ drop i A) (zero-add (length ws) ∙ e)))
+
+pub ruleset puts = (too_short, words_more, words_put)
 
 -- what a parse reported, word by word
 pub report_is : (R : List ℕ) (v a b i o : ℕ) (z : ℤ) (m n : Maybe)

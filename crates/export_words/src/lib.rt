@@ -45,7 +45,10 @@ fn put(answer: &mut [u64], number: u64, words: [u64; 8]) -> u64
     if answer.len() < ANSWER {
         return NO_ROOM;
     }
-    answer[..ANSWER].copy_from_slice(&words);
+    // Kept: no `copy_from_slice`, which the compiler doesn't see through: the words would stand in memory first, in each export.
+    for k in 0..ANSWER {
+        answer[k] = words[k];
+    }
     number
 }
 
@@ -81,7 +84,7 @@ pub fn psbt_of(report: &[u64]) -> Psbt
 }
 
 // Whether words are those of an accepted parse.
-fn is_report(report: &[u64]) -> bool
+pub fn is_report(report: &[u64]) -> bool
     ensures { result ≡ is_report report.now }
 {
     word(report, 0) == REPORT_VALUES

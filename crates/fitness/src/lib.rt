@@ -97,7 +97,7 @@ fn fit_entry(file: &[u8], pairs: &[u32], m: MapEntry) -> Result<MapEntry, PsbtEr
 }
 
 // A map's number is below one plus both reported counts.
-fn is_reported(psbt: Psbt, m: u64) -> bool
+pub fn is_reported(psbt: Psbt, m: u64) -> bool
     ensures { result ≡ ltb m (maps_reported psbt) }
 {
     m <= psbt.inputs || m - psbt.inputs <= psbt.outputs

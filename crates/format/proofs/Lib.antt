@@ -6,6 +6,7 @@ pub mod Compact
 pub mod Keys
 pub mod Wrong
 pub mod Told
+pub mod Counts
 pub mod Entries
 pub mod Maybes
 pub mod MapKinds

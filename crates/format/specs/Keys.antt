@@ -1,6 +1,6 @@
 -- Keys: type, data, order.
 use Rattle.std.specs.Ordering.{is_lt, is_eq}
-use Rattle.std.specs.Prelude.{ℕ, Bool, true, false, List, [], ◌∷◌, ltb}
+use Rattle.std.specs.Prelude.{ℕ, Bool, List, [], ◌∷◌, ltb}
 use Rattle.format.specs.Tests.{pick}
 use Rattle.std.specs.declared.cmp.Ordering.{Ordering}
 use Rattle.std.specs.declared.cmp.Ordering.TheVariants.{Less, Equal, Greater}

@@ -4,7 +4,7 @@ use Rattle.format.specs.Tests.{pick}
 use Rattle.format.specs.Compact.{count}
 use Rattle.format.specs.Keys.{type_of, data_of}
 use Rattle.format.specs.declared.MapKind.{MapKind}
-use Rattle.format.specs.declared.MapKind.TheVariants.{Global, Input, Output}
+use Rattle.format.specs.declared.MapKind.TheVariants.{Global, Input, Output, Other}
 use Rattle.format.specs.declared.PsbtError.TheVariants.{BadValue, NotAllowed}
 use Rattle.format.specs.Answers.{passed, Ruled, Size}
 use Rattle.format.specs.declared.SizedType.{SizedType}
@@ -21,11 +21,20 @@ INPUT = 1
 abbrev pub OUTPUT : ℕ
 OUTPUT = 2
 
+-- a map of any other kind, which no file has
+abbrev pub OTHER : ℕ
+OTHER = 3
+
 -- the number of a kind that the code names
 abbrev pub kind_of : MapKind → ℕ
 kind_of Global = GLOBAL
 kind_of Input = INPUT
 kind_of Output = OUTPUT
+kind_of Other = OTHER
+
+-- the number of a kind, by a byte: from 3 on all are one
+unfoldable pub kind_number : ℕ → ℕ
+kind_number b = pick (leb OTHER b) OTHER b
 
 -- types from one up to another
 pub record Span : Type 0 where

@@ -3,6 +3,7 @@
 
 ghost use Rattle.std.specs.Prelude.{◌≡◌};
 ghost use Rattle.format.specs.Refusals.{number_of};
+ghost use Rattle.format.specs.Rules.{kind_of, kind_number};
 
 // A lock number below this is a block height, any other a time.
 pub const THRESHOLD: u32 = 500_000_000;
@@ -130,12 +131,28 @@ pub const PSBT_OUT_DNSSEC_PROOF: u8 = 0x35;
 
 pub const PSBT_OUT_PROPRIETARY: u8 = 0xfc;
 
-// The kinds of map: the global one, an input's, an output's.
+// The kinds of map: the global one, an input's, an output's, and any other, which no file has: of such a kind no type is sized
+// or noted.
 #[derive(Clone, Copy, PartialEq, Eq)]
 pub enum MapKind {
     Global,
     Input,
     Output,
+    Other,
+}
+
+impl From<u8> for MapKind {
+    // The kind of a number.
+    fn from(number: u8) -> Self
+        ensures { kind_of result ≡ kind_number number }
+    {
+        match number {
+            0 => MapKind::Global,
+            1 => MapKind::Input,
+            2 => MapKind::Output,
+            _ => MapKind::Other,
+        }
+    }
 }
 
 // Why a call is refused: the Rust's names in the Rust's order, then those that lent memory adds. They count from 1.

@@ -1,11 +1,10 @@
 -- Laws of the functions for the end of a map and of a file, one for each way through them.
-use Prim.Native.Nat.{ℕ, ◌-◌, ◌≤◌, ◌<◌}
+use Prim.Native.Nat.{◌-◌, ◌≤◌, ◌<◌}
 use mathlib.Core.Path.{◌≡◌, sym, ◌∙◌, ap}
 use mathlib.Core.Bool.{Bool, true, false}
 use borrow.Author.Tests.{lt-ltb, le-ltb}
 use Rattle.format.specs.Rules.{and_then}
 use Rattle.format.specs.Content.{output_by}
-use Rattle.format.specs.Locks.{or_zero}
 use Rattle.format.specs.declared.MapKind.TheVariants.{Global, Input, Output}
 use Rattle.format.specs.declared.PsbtError.{PsbtError}
 use Rattle.format.specs.declared.PsbtError.TheVariants.{UnexpectedEof}
@@ -34,11 +33,17 @@ module _ (w : Known) (y : Ruled) (is : y ≡ globals_rule w.globals) where
   unfolding close_global
   close_bad e h = sym (ap (close_global w) (sym is ∙ h))
 
-  pub close_good : y ≡ passed → (n m : ℕ) → n ≡ or_zero w.globals.n_inputs → m ≡ or_zero w.globals.n_outputs
-      → Ok (record { kind = w.kind; globals = w.globals; inputs = n; outputs = m; seen = w.seen; ruled = w.ruled })
-      ≡ close_global w (globals_rule w.globals)
+  pub close_good : y ≡ passed
+      → Ok (record {
+        kind = w.kind;
+        globals = w.globals;
+        inputs = w.globals.n_inputs;
+        outputs = w.globals.n_outputs;
+        seen = w.seen;
+        ruled = w.ruled;
+      }) ≡ close_global w (globals_rule w.globals)
   unfolding close_global
-  close_good h n m p q = rw (p, q) (sym (ap (close_global w) (sym is ∙ h)))
+  close_good h = sym (ap (close_global w) (sym is ∙ h))
 
 pub ruleset close_globals = (close_bad, close_good)
 

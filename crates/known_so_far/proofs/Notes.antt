@@ -18,7 +18,7 @@ use Rattle.format.specs.Content.{counted, psbt_of, global_rule, modifiable, outp
 use Rattle.format.specs.Locks.{or_zero}
 use Rattle.format.specs.declared.MapKind.TheVariants.{Global, Input, Output}
 use Rattle.format.specs.declared.PsbtError.TheVariants.{BadValue}
-use Rattle.format.specs.Answers.{passed, Maybe, Ruled, Size}
+use Rattle.format.specs.Answers.{passed, Ruled, Size}
 use Rattle.std.specs.Prelude.{Ok, Err, Some, None}
 use Rattle.format.proofs.Tests.{pick_by}
 use Rattle.format.proofs.Keys.{same_is}
@@ -98,11 +98,6 @@ unfolding count_rule count
 counted_is v (Ok r) q h = rw q (unfold size_value in ap size_value (sym (count_read (length v) (count_by_def (length v) (size v)) (size v) r refl q)))
 counted_is v (Err e) q h = let z : ◌≡◌ {A = ℕ} 0 1 = cc in absurd (omega arith)
 
--- the count that a count field's value says, if there is one
-unfoldable pub maybe_counted : Found → Maybe
-maybe_counted absent = None
-maybe_counted (found v) = Some (size_value (size v))
-
 -- what noting gives from nothing on, by what is found
 module _ (ps : List Pair) (h : Rises [] ps) (a : All (Keeps (rule GLOBAL)) ps) where
   number_along : (t m : ℕ) → m ≤ 4 → ((n : ℕ) → sizes GLOBAL t 0 n ≡ pick (eqb n m) passed (Err BadValue))
@@ -116,13 +111,13 @@ module _ (ps : List Pair) (h : Rises [] ps) (a : All (Keeps (rule GLOBAL)) ps) w
           let e : length v ≡ m = global_sized t m v is (found_keeps GLOBAL (key_of t []) ps v a q) in
           ap (λ (x : List ℕ). Some (le x)) (take_all 4 v (omega arith))
 
-  count_along : (t : ℕ) → ((v : List ℕ) → rule GLOBAL (key_of t []) v ≡ count_rule (count v)) → along_by as_count t ps None ≡ maybe_counted (field t ps)
-  unfolding or_old maybe_counted as_count field
-  count_along t is = along_is as_count t [] ps None h ∙ by (field t ps) refl
+  count_along : (t : ℕ) → ((v : List ℕ) → rule GLOBAL (key_of t []) v ≡ count_rule (count v)) → along_by as_count t ps 0 ≡ counted (field t ps)
+  unfolding or_old counted as_count field
+  count_along t is = along_is as_count t [] ps 0 h ∙ by (field t ps) refl
     where
-      by : (f : Found) → field t ps ≡ f → or_old as_count f None ≡ maybe_counted f
+      by : (f : Found) → field t ps ≡ f → or_old as_count f 0 ≡ counted f
       by absent q = refl
-      by (found v) q = ap Some (counted_is v (count v) refl (sym (is v) ∙ found_keeps GLOBAL (key_of t []) ps v a q))
+      by (found v) q = counted_is v (count v) refl (sym (is v) ∙ found_keeps GLOBAL (key_of t []) ps v a q)
 
 there_along : (t : ℕ) (ps : List Pair) → Rises [] ps → along_by as_there t ps false ≡ present (field t ps)
 unfolding or_old present as_there
@@ -146,6 +141,8 @@ globals_along ps g = record {
   n_outputs = along_by as_count 0x05 ps g.n_outputs;
   tx_modifiable = along_by as_number 0x06 ps g.tx_modifiable;
   psbt_version = along_by as_number 0xfb ps g.psbt_version;
+  has_inputs = along_by as_there 0x04 ps g.has_inputs;
+  has_outputs = along_by as_there 0x05 ps g.has_outputs;
 }
 
 -- those of an output
@@ -165,7 +162,7 @@ unfolding note note_by
 note_output_lem w key v k = rw k
 
 global_all : (w : Known) (ps : List Pair) → w.kind ≡ Global → note_all w ps ≡ with_globals w (globals_along ps w.globals)
-unfolding note_all with_globals globals_along along_by note_global noted noted_count
+unfolding note_all with_globals globals_along along_by note_global noted noted_count noted_there
 global_all w [] k = refl
 global_all w (p ∷ ps) k = rw (note_global_lem w p.key p.value k) (global_all (with_globals w (note_global p.key p.value w.globals)) ps k)
 
@@ -179,10 +176,12 @@ unfoldable pub found_globals : List Pair → Globals
 found_globals ps = record {
   tx_version = maybe (field 0x02 ps);
   fallback_locktime = maybe (field 0x03 ps);
-  n_inputs = maybe_counted (field 0x04 ps);
-  n_outputs = maybe_counted (field 0x05 ps);
+  n_inputs = counted (field 0x04 ps);
+  n_outputs = counted (field 0x05 ps);
   tx_modifiable = maybe (field 0x06 ps);
   psbt_version = maybe (field 0xfb ps);
+  has_inputs = present (field 0x04 ps);
+  has_outputs = present (field 0x05 ps);
 }
 
 pub global_noted : (w : Known) (ps : List Pair) → w.kind ≡ Global
@@ -197,6 +196,8 @@ global_noted w ps k g h a =
       count_along ps h a 0x05 (λ v. refl),
       number_along ps h a 0x06 1 (omega arith) (λ n. refl),
       number_along ps h a 0xfb 4 (omega arith) (λ n. refl),
+      there_along 0x04 ps h,
+      there_along 0x05 ps h,
     )
 
 -- what an output has, as it is found
@@ -228,30 +229,13 @@ unfolding maybe present
 there_maybe absent = refl
 there_maybe (found v) = refl
 
-zero_counted : (f : Found) → or_zero (maybe_counted f) ≡ counted f
-unfolding maybe_counted counted
-zero_counted absent = refl
-zero_counted (found v) = refl
-
-there_counted : (f : Found) → there (maybe_counted f) ≡ present f
-unfolding maybe_counted present
-there_counted absent = refl
-there_counted (found v) = refl
-
 pub psbt_from_lem : (ps : List Pair) → psbt_from (found_globals ps) ≡ psbt_of ps
 unfolding psbt_from found_globals psbt_of
-psbt_from_lem ps = rw (zero_maybe (field 0x02 ps), zero_counted (field 0x04 ps), zero_counted (field 0x05 ps))
+psbt_from_lem ps = rw (zero_maybe (field 0x02 ps))
 
 pub global_rule_lem : (ps : List Pair) → globals_rule (found_globals ps) ≡ global_rule ps
 unfolding globals_rule all_there version_rule found_globals global_rule
-global_rule_lem ps =
-    rw (
-      there_maybe (field 0x02 ps),
-      there_counted (field 0x04 ps),
-      there_counted (field 0x05 ps),
-      there_maybe (field 0xfb ps),
-      zero_maybe (field 0xfb ps),
-    )
+global_rule_lem ps = rw (there_maybe (field 0x02 ps), there_maybe (field 0xfb ps), zero_maybe (field 0xfb ps))
 
 pub flags_are : (ps : List Pair) → flags (maybe (field 0x06 ps)) ≡ modifiable (field 0x06 ps)
 unfolding flags modifiable
@@ -261,10 +245,10 @@ pub seen_rule_lem : (g ps : List Pair) → seen_rule (found_globals g) (found_se
 unfolding seen_rule found_globals found_seen output_rule
 seen_rule_lem g ps = rw (flags_are g)
 
-pub inputs_counted : (ps : List Pair) → or_zero (found_globals ps).n_inputs ≡ counted (field 0x04 ps)
+pub inputs_counted : (ps : List Pair) → (found_globals ps).n_inputs ≡ counted (field 0x04 ps)
 unfolding found_globals
-inputs_counted ps = zero_counted (field 0x04 ps)
+inputs_counted ps = refl
 
-pub outputs_counted : (ps : List Pair) → or_zero (found_globals ps).n_outputs ≡ counted (field 0x05 ps)
+pub outputs_counted : (ps : List Pair) → (found_globals ps).n_outputs ≡ counted (field 0x05 ps)
 unfolding found_globals
-outputs_counted ps = zero_counted (field 0x05 ps)
+outputs_counted ps = refl

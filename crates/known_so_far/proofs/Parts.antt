@@ -8,14 +8,13 @@ use lib.Dec.{eqb}
 use lib.ListN.{length}
 use lib.IntN.{ℤ}
 use lib.Bits.{bit_and, and_mask}
-use Rattle.std.proofs.Math.Bool.{and_assoc}
 use Rattle.format.specs.Tests.{pick}
 use Rattle.format.specs.Numbers.{signed}
 use Rattle.format.specs.Keys.{key_of, same}
 use Rattle.format.specs.Compact.{count}
 use Rattle.format.specs.Content.{size_value, output_by}
 use Rattle.format.specs.declared.MapKind.{MapKind}
-use Rattle.format.specs.declared.MapKind.TheVariants.{Global, Input, Output}
+use Rattle.format.specs.declared.MapKind.TheVariants.{Global, Input, Output, Other}
 use Rattle.format.specs.declared.PsbtError.{PsbtError}
 use Rattle.format.specs.declared.PsbtError.TheVariants.{MissingCounts, NotAllowed, MissingOutputScript, InvalidSilentPayment}
 use Rattle.format.specs.declared.CompactSize.{CompactSize}
@@ -60,11 +59,11 @@ module _ (t : ℕ) (key v : List ℕ) (b : Bool) (is : b ≡ same (key_of t []) 
   unfolding noted
   noted_no old h = by_no as_number old h
 
-  pub count_yes : (z : Size) (x : ℕ) (old : Maybe) → b ≡ true → z ≡ count v → x ≡ size_value z → Some x ≡ noted_count t key v old
+  pub count_yes : (z : Size) (x old : ℕ) → b ≡ true → z ≡ count v → x ≡ size_value z → x ≡ noted_count t key v old
   unfolding noted_count as_count
-  count_yes z x old h e f = ap Some (f ∙ ap size_value e) ∙ by_yes as_count old h
+  count_yes z x old h e f = f ∙ ap size_value e ∙ by_yes as_count old h
 
-  pub count_no : (old : Maybe) → b ≡ false → old ≡ noted_count t key v old
+  pub count_no : (old : ℕ) → b ≡ false → old ≡ noted_count t key v old
   unfolding noted_count
   count_no old h = by_no as_count old h
 
@@ -79,13 +78,32 @@ module _ (t : ℕ) (key v : List ℕ) (b : Bool) (is : b ≡ same (key_of t []) 
 pub ruleset notes = (noted_yes, noted_no, count_yes, count_no, there_yes, there_no)
 
 -- the fields noted together
-pub note_fields : (g : Globals) (key v : List ℕ) (a b c d e f : Maybe)
+pub note_fields : (g : Globals) (key v : List ℕ) (a b : Maybe) (c d : ℕ) (e f : Maybe) (x y : Bool)
     → a ≡ noted 0x02 key v g.tx_version → b ≡ noted 0x03 key v g.fallback_locktime → c ≡ noted_count 0x04 key v g.n_inputs
     → d ≡ noted_count 0x05 key v g.n_outputs → e ≡ noted 0x06 key v g.tx_modifiable → f ≡ noted 0xfb key v g.psbt_version
-    → record { tx_version = a; fallback_locktime = b; n_inputs = c; n_outputs = d; tx_modifiable = e; psbt_version = f } ≡ note_global key v g
-unfolding note_global
-note_fields g key v a b c d e f p q r s t u =
-    λ i. record { tx_version = p i; fallback_locktime = q i; n_inputs = r i; n_outputs = s i; tx_modifiable = t i; psbt_version = u i }
+    → x ≡ noted_there 0x04 key [] g.has_inputs → y ≡ noted_there 0x05 key [] g.has_outputs
+    → record {
+      tx_version = a;
+      fallback_locktime = b;
+      n_inputs = c;
+      n_outputs = d;
+      tx_modifiable = e;
+      psbt_version = f;
+      has_inputs = x;
+      has_outputs = y;
+    } ≡ note_global key v g
+unfolding note_global noted_there noted_by as_there
+note_fields g key v a b c d e f x y p q r s t u m n =
+    λ i. record {
+      tx_version = p i;
+      fallback_locktime = q i;
+      n_inputs = r i;
+      n_outputs = s i;
+      tx_modifiable = t i;
+      psbt_version = u i;
+      has_inputs = m i;
+      has_outputs = n i;
+    }
 
 pub note_seen : (o : Seen) (key v : List ℕ) (a b c : Bool)
     → a ≡ noted_there 0x04 key v o.script → b ≡ noted_there 0x09 key v o.code → c ≡ noted_there 0x0a key v o.label
@@ -103,6 +121,7 @@ module _ (w : Known) (key v : List ℕ) where
   wide_by h Global = rw (wide_no 0x02 h, wide_no 0x03 h, wide_no 0x04 h, wide_no 0x05 h, wide_no 0x06 h, wide_no 0xfb h)
   wide_by h Input = refl
   wide_by h Output = rw (wide_no 0x04 h, wide_no 0x09 h, wide_no 0x0a h)
+  wide_by h Other = refl
 
   pub note_wide : (length key ≡ 1 → ⊥) → w ≡ note key v w
   unfolding note
@@ -125,24 +144,26 @@ module _ (w : Known) (key v : List ℕ) where
 pub ruleset pair_notes = (note_wide, note_g, note_o, note_i)
 
 -- all that has to be in the global map
--- one test and then another: v is what both say
-module _ (a x y v : Bool) (p : a ≡ x) where
-  pub both_no : a ≡ false → v ≡ a → v ≡ (x && y)
-  both_no h e = e ∙ h ∙ sym (rw (sym p ∙ h))
-
-  pub both_yes : a ≡ true → (b : Bool) → b ≡ y → v ≡ b → v ≡ (x && y)
-  both_yes h b q e = e ∙ q ∙ sym (rw (sym p ∙ h))
-
-module _ (g : Globals) (a : Bool) (p : a ≡ ((there g.tx_version && there g.n_inputs) && there g.n_outputs)) where
-  pub some_missing : a ≡ false → a ≡ all_there g
+module _ (g : Globals) (a : Bool) (p : a ≡ there g.tx_version) where
+  pub no_version : a ≡ false → a ≡ all_there g
   unfolding all_there
-  some_missing h = both_no a _ (there g.psbt_version) a p h refl ∙ simp and_assoc
+  no_version h = h ∙ sym (rw (sym p ∙ h))
 
-  pub counts_there : a ≡ true → (b : Bool) → b ≡ there g.psbt_version → b ≡ all_there g
-  unfolding all_there
-  counts_there h b q = both_yes a _ (there g.psbt_version) b p h b q refl ∙ simp and_assoc
+  module _ (h : a ≡ true) where
+    pub no_inputs : g.has_inputs ≡ false → g.has_inputs ≡ all_there g
+    unfolding all_there
+    no_inputs k = k ∙ sym (rw (sym p ∙ h, k))
 
-pub ruleset all_theres = (both_no, both_yes, some_missing, counts_there)
+    module _ (k : g.has_inputs ≡ true) where
+      pub no_outputs : g.has_outputs ≡ false → g.has_outputs ≡ all_there g
+      unfolding all_there
+      no_outputs l = l ∙ sym (rw (sym p ∙ h, k, l))
+
+      pub counts_there : g.has_outputs ≡ true → (d : Bool) → d ≡ there g.psbt_version → d ≡ all_there g
+      unfolding all_there
+      counts_there l d q = q ∙ sym (rw (sym p ∙ h, k, l))
+
+pub ruleset all_theres = (no_version, no_inputs, no_outputs, counts_there)
 
 module _ (m : Maybe) (n : ℕ) (e : n ≡ or_zero m) where
   pub version_two : n ≡ 2 → passed ≡ version_rule m
@@ -198,15 +219,16 @@ module _ (f s c l : Bool) where
 pub ruleset outputs = (out_none, out_code, out_script, out_label, out_flags, out_both)
 
 -- what is reported
-pub report : (g : Globals) (n : ℕ) (z : ℤ) (i o : ℕ) → n ≡ or_zero g.tx_version → z ≡ signed n → i ≡ or_zero g.n_inputs → o ≡ or_zero g.n_outputs
-    → record { tx_version = z; fallback_locktime = g.fallback_locktime; tx_modifiable = g.tx_modifiable; inputs = i; outputs = o } ≡ psbt_from g
+pub report : (g : Globals) (n : ℕ) (z : ℤ) → n ≡ or_zero g.tx_version → z ≡ signed n
+    → record { tx_version = z; fallback_locktime = g.fallback_locktime; tx_modifiable = g.tx_modifiable; inputs = g.n_inputs; outputs = g.n_outputs }
+    ≡ psbt_from g
 unfolding psbt_from
-report g n z i o p q r s = λ j. record {
+report g n z p q = λ j. record {
   tx_version = (q ∙ ap signed p) j;
   fallback_locktime = g.fallback_locktime;
   tx_modifiable = g.tx_modifiable;
-  inputs = r j;
-  outputs = s j;
+  inputs = g.n_inputs;
+  outputs = g.n_outputs;
 }
 
 -- the two low flags

@@ -8,7 +8,7 @@ use Rattle.format.specs.Rules.{and_then}
 use Rattle.format.specs.Content.{size_value, output_by}
 use Rattle.format.specs.Locks.{or_zero}
 use Rattle.format.specs.declared.MapKind.{MapKind}
-use Rattle.format.specs.declared.MapKind.TheVariants.{Global, Input, Output}
+use Rattle.format.specs.declared.MapKind.TheVariants.{Global, Input, Output, Other}
 use Rattle.format.specs.declared.PsbtError.TheVariants.{UnexpectedEof, MissingCounts, NotAllowed}
 use Rattle.format.specs.Answers.{Answer, passed, Maybe, Ruled}
 use Rattle.format.specs.declared.Psbt.{Psbt}
@@ -28,8 +28,8 @@ unfoldable pub as_number : List ℕ → Maybe
 as_number v = Some (lead 4 v)
 
 -- as a count
-unfoldable pub as_count : List ℕ → Maybe
-as_count v = Some (size_value (count v))
+unfoldable pub as_count : List ℕ → ℕ
+as_count v = size_value (count v)
 
 -- as being there
 unfoldable pub as_there : List ℕ → Bool
@@ -40,10 +40,10 @@ unfoldable pub noted : ℕ → List ℕ → List ℕ → Maybe → Maybe
 noted t key v old = noted_by as_number t key v old
 
 -- a count after a pair
-unfoldable pub noted_count : ℕ → List ℕ → List ℕ → Maybe → Maybe
+unfoldable pub noted_count : ℕ → List ℕ → List ℕ → ℕ → ℕ
 noted_count t key v old = noted_by as_count t key v old
 
--- whether an output has a field, after a pair
+-- whether a field is there, after a pair
 unfoldable pub noted_there : ℕ → List ℕ → List ℕ → Bool → Bool
 noted_there t key v old = noted_by as_there t key v old
 
@@ -56,6 +56,8 @@ note_global key v g = record {
   n_outputs = noted_count 0x05 key v g.n_outputs;
   tx_modifiable = noted 0x06 key v g.tx_modifiable;
   psbt_version = noted 0xfb key v g.psbt_version;
+  has_inputs = noted_there 0x04 key v g.has_inputs;
+  has_outputs = noted_there 0x05 key v g.has_outputs;
 }
 
 -- what an output has, after a pair of it
@@ -79,6 +81,7 @@ unfoldable pub note_by : MapKind → List ℕ → List ℕ → Known → Known
 note_by Global key v w = with_globals w (note_global key v w.globals)
 note_by Input key v w = w
 note_by Output key v w = with_seen w (note_output key v w.seen)
+note_by Other key v w = w
 
 -- what is known after a pair of the map that is read
 unfoldable pub note : List ℕ → List ℕ → Known → Known
@@ -89,10 +92,12 @@ abbrev pub no_globals : Globals
 no_globals = record {
   tx_version = None;
   fallback_locktime = None;
-  n_inputs = None;
-  n_outputs = None;
+  n_inputs = 0;
+  n_outputs = 0;
   tx_modifiable = None;
   psbt_version = None;
+  has_inputs = false;
+  has_outputs = false;
 }
 
 -- an output of which nothing is read yet
@@ -109,7 +114,7 @@ there m = is_some m
 
 -- all that has to be in the global map is there
 unfoldable pub all_there : Globals → Bool
-all_there g = there g.tx_version && (there g.n_inputs && (there g.n_outputs && there g.psbt_version))
+all_there g = there g.tx_version && (g.has_inputs && (g.has_outputs && there g.psbt_version))
 
 -- its version is 2
 unfoldable pub version_rule : Maybe → Ruled
@@ -125,8 +130,8 @@ psbt_from g = record {
   tx_version = signed (or_zero g.tx_version);
   fallback_locktime = g.fallback_locktime;
   tx_modifiable = g.tx_modifiable;
-  inputs = or_zero g.n_inputs;
-  outputs = or_zero g.n_outputs;
+  inputs = g.n_inputs;
+  outputs = g.n_outputs;
 }
 
 -- any of the two low flags is set
@@ -152,8 +157,8 @@ close_global w (Ok u) =
     Ok (record {
       kind = w.kind;
       globals = w.globals;
-      inputs = or_zero w.globals.n_inputs;
-      outputs = or_zero w.globals.n_outputs;
+      inputs = w.globals.n_inputs;
+      outputs = w.globals.n_outputs;
       seen = w.seen;
       ruled = w.ruled;
     })
@@ -174,6 +179,7 @@ unfoldable pub close_by : MapKind → Known → Closed
 close_by Global w = close_global w (globals_rule w.globals)
 close_by Input w = Ok w
 close_by Output w = Ok (close_output w)
+close_by Other w = Ok w
 
 -- where the map that is read ends
 unfoldable pub close : Known → Closed

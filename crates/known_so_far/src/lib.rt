@@ -16,15 +16,19 @@ use format::{
 use keys::is_bare;
 use wire::{signed, u32_from_le_bytes, u64_from_compact_size};
 
-// What is known of the global map: its fields without key data.
+// What is known of the global map: its fields without key data. An absent count is 0 and has its flag unset; the flags
+// stand behind the wider fields.
+// Kept: counts with flags apart and no Option, which takes eight bytes more for each. What is known is copied at each pair.
 #[derive(Clone, Copy)]
 pub struct Globals {
     pub tx_version: Option<u32>,
     pub fallback_locktime: Option<u32>,
-    pub n_inputs: Option<u64>,
-    pub n_outputs: Option<u64>,
+    pub n_inputs: u64,
+    pub n_outputs: u64,
     pub tx_modifiable: Option<u32>,
     pub psbt_version: Option<u32>,
+    pub has_inputs: bool,
+    pub has_outputs: bool,
 }
 
 // Which of script 04, code 09 and label 0a the output that is read has.
@@ -43,7 +47,8 @@ const UNSEEN: Seen = Seen {
 };
 
 // What is known of a file so far: the global fields, how many inputs and outputs are still to come, what the output that
-// is read has, what the rules say of the outputs so far, and the kind of the map that is read.
+// is read has, what the rules say of the outputs so far, and the kind of the map that is read (last, where it leaves
+// no gap before the wider fields: copying one costs time at each pair).
 #[derive(Clone, Copy)]
 pub struct Known {
     pub globals: Globals,
@@ -85,17 +90,17 @@ fn noted(key_type: u8, key: &[u8], value: &[u8], old: Option<u32>) -> Option<u32
 }
 
 // A count field after a pair.
-fn noted_count(key_type: u8, key: &[u8], value: &[u8], old: Option<u64>) -> Option<u64>
+fn noted_count(key_type: u8, key: &[u8], value: &[u8], old: u64) -> u64
     ensures { result ≡ noted_count key_type key.now value.now old }
 {
     if is_bare(key, key_type) {
-        Some(size_value(u64_from_compact_size(value)))
+        size_value(u64_from_compact_size(value))
     } else {
         old
     }
 }
 
-// Whether an output has a field, after a pair.
+// Whether a field is there, after a pair.
 fn noted_there(key_type: u8, key: &[u8], old: bool) -> bool
     ensures { result ≡ noted_there key_type key.now [] old }
 {
@@ -118,6 +123,8 @@ fn note_global(g: Globals, key: &[u8], value: &[u8]) -> Globals
         n_outputs: noted_count(PSBT_GLOBAL_OUTPUT_COUNT, key, value, g.n_outputs),
         tx_modifiable: noted(PSBT_GLOBAL_TX_MODIFIABLE, key, value, g.tx_modifiable),
         psbt_version: noted(PSBT_GLOBAL_VERSION, key, value, g.psbt_version),
+        has_inputs: noted_there(PSBT_GLOBAL_INPUT_COUNT, key, g.has_inputs),
+        has_outputs: noted_there(PSBT_GLOBAL_OUTPUT_COUNT, key, g.has_outputs),
     }
 }
 
@@ -144,7 +151,7 @@ pub fn note_pair(known: Known, key: &[u8], value: &[u8]) -> Known
             globals: note_global(known.globals, key, value),
             ..known
         },
-        MapKind::Input => known,
+        MapKind::Input | MapKind::Other => known,
         MapKind::Output => Known {
             seen: note_output(known.seen, key),
             ..known
@@ -156,10 +163,7 @@ pub fn note_pair(known: Known, key: &[u8], value: &[u8]) -> Known
 fn has_counts(g: Globals) -> bool
     ensures { result ≡ all_there g }
 {
-    g.tx_version.is_some()
-        && g.n_inputs.is_some()
-        && g.n_outputs.is_some()
-        && g.psbt_version.is_some()
+    g.tx_version.is_some() && (g.has_inputs && (g.has_outputs && g.psbt_version.is_some()))
 }
 
 // The version is 2.
@@ -193,8 +197,8 @@ fn psbt_of(g: Globals) -> Psbt
         tx_version: signed(g.tx_version.unwrap_or(0)),
         fallback_locktime: g.fallback_locktime,
         tx_modifiable: g.tx_modifiable,
-        inputs: g.n_inputs.unwrap_or(0),
-        outputs: g.n_outputs.unwrap_or(0),
+        inputs: g.n_inputs,
+        outputs: g.n_outputs,
     }
 }
 
@@ -242,8 +246,8 @@ fn close_global(known: Known) -> Result<Known, PsbtError>
     let globals = known.globals;
     check_globals(globals)?;
     Ok(Known {
-        inputs: globals.n_inputs.unwrap_or(0),
-        outputs: globals.n_outputs.unwrap_or(0),
+        inputs: globals.n_inputs,
+        outputs: globals.n_outputs,
         ..known
     })
 }
@@ -268,7 +272,7 @@ fn close_map(known: Known) -> Result<Known, PsbtError>
 {
     match known.kind {
         MapKind::Global => close_global(known),
-        MapKind::Input => Ok(known),
+        MapKind::Input | MapKind::Other => Ok(known),
         MapKind::Output => Ok(close_output(known)),
     }
 }
@@ -324,10 +328,12 @@ pub fn first_map() -> Known
         globals: Globals {
             tx_version: None,
             fallback_locktime: None,
-            n_inputs: None,
-            n_outputs: None,
+            n_inputs: 0,
+            n_outputs: 0,
             tx_modifiable: None,
             psbt_version: None,
+            has_inputs: false,
+            has_outputs: false,
         },
         inputs: 0,
         outputs: 0,

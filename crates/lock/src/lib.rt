@@ -210,10 +210,11 @@ pub fn lock_decided(file: &[u8], pairs: &[u32], maps: &[u32], psbt: Psbt) -> Res
 }
 
 // The lock time that was decided. What a rule forbids is refused.
-pub fn lock_of(lock: Lock) -> Result<u32, PsbtError>
-    ensures { locked_by result ≡ lock_of (Ok lock) }
+pub fn lock_of(lock: Result<Lock, PsbtError>) -> Result<u32, PsbtError>
+    ensures { locked_by result ≡ lock_of lock }
 {
-    match lock {
+    let decided = lock?;
+    match decided {
         Lock::Height { number, .. } | Lock::Time { number, .. } | Lock::Fallback { number } => {
             Ok(number)
         }

@@ -33,7 +33,6 @@ use Rattle.wire.specs.Leads.{lead}
 use Rattle.wire.proofs.Sizes.{part_rest}
 use Rattle.fitness.specs.Fits.{entries_of, held_of, Sound, Fit}
 use Rattle.fitness.specs.Parts.{bytes_at}
-use Rattle.fitness.proofs.Maps.{held_ok, held_err}
 use Rattle.lookup.specs.Finds.{length_of, Short, Lies}
 use Rattle.lookup.specs.declared.Wanted.{Wanted}
 use Rattle.lookup.specs.declared.Wanted.TheVariants as W
@@ -143,18 +142,23 @@ module _ (ok : Bool) (l : Length) (f key P : List ℕ) (m : MapEntry) where
 
 pub ruleset askings = (asked_bad, asked_place)
 
--- the lookup of any key, by what the map is
-module _ (f d P : List ℕ) (t : ℕ) (fit : Fit) (h : Held) (q : held_of P fit ≡ h) where
-  pub get_refused : (e : PsbtError) → fit ≡ Err e → told_looked (Err e) ≡ told_looked (look f t d h)
-  unfolding look asked
-  get_refused e x = ap (λ (k : Held). told_looked (look f t d k)) (held_err P fit h q e x)
+-- the same, by what the map is
+module _ (ok : Bool) (l : Length) (f key P : List ℕ) (fit : Fit) where
+  pub asked_refused : (e : PsbtError) → fit ≡ Err e → Err e ≡ asked ok l f key (held_of P fit)
+  unfolding asked held_of
+  asked_refused e q = rw q
 
-  pub get_is : (m : MapEntry) → fit ≡ Ok m → (r : Looked) → r ≡ asked true (length_of W.AnyLength) f (key_of t d) (holds (entries_of P m))
-      → told_looked r ≡ told_looked (look f t d h)
-  unfolding look length_of
-  get_is m x r e = ap told_looked (e ∙ ap (asked true any_length f (key_of t d)) (held_ok P fit h q m x))
+  pub asked_there : (m : MapEntry) → fit ≡ Ok m → (r : Looked) → r ≡ asked ok l f key (holds (entries_of P m)) → r ≡ asked ok l f key (held_of P fit)
+  unfolding held_of
+  asked_there m q r e = e ∙ sym (rw q)
 
-pub ruleset gets = (get_refused, get_is)
+pub ruleset asked_of = (asked_refused, asked_there)
+
+pub get_is : (f d P : List ℕ) (t : ℕ) (fit : Fit) (h : Held) (r : Looked) → r ≡ asked true (length_of W.AnyLength) f (key_of t d) (held_of P fit)
+    → held_of P fit ≡ h
+    → told_looked r ≡ told_looked (look f t d h)
+unfolding look length_of
+get_is f d P t fit h r e q = ap told_looked (e ∙ ap (asked true any_length f (key_of t d)) q)
 
 -- the part that is handed back, and its number
 module _ (f : List ℕ) (o : Looked) where

@@ -28,8 +28,7 @@ use Rattle.format.specs.declared.PairEntry.{PairEntry}
 use Rattle.format.specs.declared.MapEntry.{MapEntry}
 use Rattle.entries.specs.Words.{no_pair, pair_count, pair_at}
 use Rattle.entries.proofs.Tables.{pair_count_lem}
-use Rattle.fitness.proofs.Maps.{held_ok, held_err}
-use Rattle.fitness.specs.Fits.{run, entries_of, held_of, Within, Fit}
+use Rattle.fitness.specs.Fits.{run, entries_of, held_of, Fit}
 use Rattle.lookup.specs.Lists.{is_before, is_listed}
 
 -- the tests on one key
@@ -73,15 +72,20 @@ list_counted f t es i n p q =
     ap₂ (λ (a b : ℕ). Ok (pairs_at a b)) (p ∙ only_shown (λ p. below p.key (key_of t [])) f es) (q ∙ only_shown (λ p. eqb (type_of p.key) t) f es)
 
 -- a listing, by what the map is
-module _ (f P : List ℕ) (t : ℕ) (fit : Fit) (h : Held) (q : held_of P fit ≡ h) where
-  pub list_refused : (e : PsbtError) → fit ≡ Err e → told_listing (Err e) ≡ told_listing (list f t h)
-  unfolding list
-  list_refused e x = ap (λ (k : Held). told_listing (list f t k)) (held_err P fit h q e x)
+module _ (f P : List ℕ) (t : ℕ) (fit : Fit) where
+  pub list_refused : (e : PsbtError) → fit ≡ Err e → Err e ≡ list f t (held_of P fit)
+  unfolding list held_of
+  list_refused e q = rw q
 
-  pub list_is : (m : MapEntry) → fit ≡ Ok m → (l : Listed) → Ok l ≡ list f t (holds (entries_of P m)) → told_listing (Ok l) ≡ told_listing (list f t h)
-  list_is m x l e = ap told_listing (e ∙ ap (list f t) (held_ok P fit h q m x))
+  pub list_there : (m : MapEntry) → fit ≡ Ok m → (l : Listed) → Ok l ≡ list f t (holds (entries_of P m)) → Ok l ≡ list f t (held_of P fit)
+  unfolding held_of
+  list_there m q l e = e ∙ sym (rw q)
 
-pub ruleset listings = (list_refused, list_is)
+pub list_is : (f P : List ℕ) (t : ℕ) (fit : Fit) (h : Held) (r : Listing) → r ≡ list f t (held_of P fit) → held_of P fit ≡ h
+    → told_listing r ≡ told_listing (list f t h)
+list_is f P t fit h r e q = ap told_listing (e ∙ ap (list f t) q)
+
+pub ruleset listings = (list_refused, list_there)
 
 -- a pair by its number
 nth_near : (i : ℕ) (es : List PairEntry) → i < length es → nth_of i es ≡ Ok (get_or es i no_pair)
@@ -102,6 +106,9 @@ module _ (P : List ℕ) (m : MapEntry) (i : ℕ) (w : m.first + m.count ≤ pair
   long =
       let h : m.first + m.count ≤ length (pair_entries P) = w in
       rw (length-take, length-drop) (omega arith)
+
+  pub entries_few : length P < 2 ^ 64 → length (entries_of P m) < 2 ^ 64
+  entries_few h = omega (arith, long, w, pair_count_lem P)
 
   pub nth_past : m.count ≤ i → Err OutOfRange ≡ nth i (holds (entries_of P m))
   unfolding nth
@@ -124,15 +131,19 @@ module _ (P : List ℕ) (m : MapEntry) (i : ℕ) (w : m.first + m.count ≤ pair
 pub ruleset nths = (nth_past, nth_fits, nth_in, nth_there)
 
 -- of the asked map, by what it is
-module _ (P : List ℕ) (fit : Fit) (i : ℕ) (h : Held) (q : held_of P fit ≡ h) where
-  pub nth_refused : (e : PsbtError) → fit ≡ Err e → told_nth (Err e) ≡ told_nth (nth i h)
-  unfolding nth
-  nth_refused e x = ap (λ (k : Held). told_nth (nth i k)) (held_err P fit h q e x)
+module _ (P : List ℕ) (fit : Fit) (i : ℕ) where
+  pub nth_refused : (e : PsbtError) → fit ≡ Err e → Err e ≡ nth i (held_of P fit)
+  unfolding nth held_of
+  nth_refused e q = rw q
 
-  pub nth_is : (m : MapEntry) → fit ≡ Ok m → (r : Nth) → r ≡ nth i (holds (entries_of P m)) → told_nth r ≡ told_nth (nth i h)
-  nth_is m x r e = ap told_nth (e ∙ ap (nth i) (held_ok P fit h q m x))
+  pub nth_of_map : (m : MapEntry) → fit ≡ Ok m → (r : Nth) → r ≡ nth i (holds (entries_of P m)) → r ≡ nth i (held_of P fit)
+  unfolding held_of
+  nth_of_map m q r e = e ∙ sym (rw q)
 
-pub ruleset nths_of = (nth_refused, nth_is)
+pub nth_is : (P : List ℕ) (fit : Fit) (i : ℕ) (h : Held) (r : Nth) → r ≡ nth i (held_of P fit) → held_of P fit ≡ h → told_nth r ≡ told_nth (nth i h)
+nth_is P fit i h r e q = ap told_nth (e ∙ ap (nth i) q)
+
+pub ruleset nths_of = (nth_refused, nth_of_map)
 
 -- its key and its value
 module _ (f : List ℕ) (o : Nth) where

@@ -2,7 +2,7 @@
 use Rattle.std.specs.Prelude.{ℕ, ◌+◌, ◌≤◌, ◌≡◌, List, length, Ok, Some}
 use Rattle.format.specs.Lookups.{Length, any_length, exactly, key_list}
 use Rattle.format.specs.declared.Part.{Part}
-use Rattle.format.specs.Answers.{part_at, Looked}
+use Rattle.format.specs.Answers.{Looked}
 use Rattle.lookup.specs.declared.Wanted.{Wanted}
 use Rattle.lookup.specs.declared.Wanted.TheVariants as W
 

@@ -8,7 +8,7 @@ ghost use Rattle.format.specs.Tables.{held, holds};
 ghost use Rattle.format.specs.Lookups.{place, length_fits, of_length_def, asked, look, part, number_at, list, nth, key_part, value_part};
 ghost use Rattle.format.specs.Told.{told_listing, told_looked, told_nth};
 ghost use Rattle.entries.specs.Words.{pair_count};
-ghost use Rattle.fitness.specs.Fits.{entries_of};
+ghost use Rattle.fitness.specs.Fits.{entries_of, held_of, Within};
 ghost use Rattle.lookup.specs.Finds.{length_of, Short};
 ghost use Rattle.lookup.specs.Lists.{is_before, is_listed};
 
@@ -75,7 +75,7 @@ fn of_length(wanted: Wanted, found: Option<Part>) -> Result<Option<Part>, PsbtEr
 }
 
 // A typed lookup in a map: the asked key's length, absence, the value's length.
-pub fn asked(
+pub fn asked_in(
     file: &[u8],
     pairs: &[u32],
     m: MapEntry,
@@ -94,6 +94,23 @@ pub fn asked(
     of_length(wanted, find_place(file, pairs, m, key_type, key_data))
 }
 
+// A typed lookup: the map's refusal, and then what the lookup in the map gives.
+pub fn asked(
+    file: &[u8],
+    pairs: &[u32],
+    fit: Result<MapEntry, PsbtError>,
+    ok: bool,
+    wanted: Wanted,
+    key_type: u8,
+    key_data: &[u8],
+) -> Result<Option<Part>, PsbtError>
+    requires { Within pairs.now fit }
+    ensures { result ≡ asked ok (length_of wanted) file.now (key_of key_type key_data.now) (held_of pairs.now fit) }
+{
+    let m = fit?;
+    asked_in(file, pairs, m, ok, wanted, key_type, key_data)
+}
+
 // The lookup of any key: where its value stands, that there is none, or the refusal.
 pub fn get(
     file: &[u8],
@@ -107,11 +124,11 @@ pub fn get(
     ensures { told_looked result ≡ told_looked (look file.now key_type key_data.now
         (held file.now pairs.now maps.now psbt m)) }
 {
-    let entry = fit_map(file, pairs, maps, psbt, m)?;
+    let fit = fit_map(file, pairs, maps, psbt, m);
     asked(
         file,
         pairs,
-        entry,
+        fit,
         true,
         Wanted::AnyLength,
         key_type,
@@ -186,17 +203,31 @@ fn is_listed(file: &[u8], e: PairEntry, key_type: u8) -> bool
 }
 
 // The pairs of a type in a map: where they begin in it, or would, and how many they are.
-pub fn list_in(file: &[u8], pairs: &[u32], m: MapEntry, key_type: u8) -> Listed
+fn list_entries(file: &[u8], pairs: &[u32], m: MapEntry, key_type: u8) -> Listed
     requires { m.first + m.count ≤ pair_count pairs.now }
     ensures { Ok result ≡ list file.now key_type (holds (entries_of pairs.now m)) }
 {
-    let first = entries::pairs_of(pairs, m)
-        .filter(|e| is_before(file, *e, key_type))
-        .count();
-    let count = entries::pairs_of(pairs, m)
-        .filter(|e| is_listed(file, *e, key_type))
-        .count();
+    let mut first = 0;
+    let mut count = 0;
+    for e in entries::pairs_of(pairs, m) {
+        first += is_before(file, e, key_type) as usize;
+        count += is_listed(file, e, key_type) as usize;
+    }
     Listed { first, count }
+}
+
+// The listing of a type: the map's refusal, or the pairs of the type in the map.
+pub fn list_in(
+    file: &[u8],
+    pairs: &[u32],
+    fit: Result<MapEntry, PsbtError>,
+    key_type: u8,
+) -> Result<Listed, PsbtError>
+    requires { Within pairs.now fit }
+    ensures { result ≡ list file.now key_type (held_of pairs.now fit) }
+{
+    let entry = fit?;
+    Ok(list_entries(file, pairs, entry, key_type))
 }
 
 // The listing of a type in map number `m`.
@@ -211,12 +242,12 @@ pub fn list(
     ensures { told_listing result ≡ told_listing (list file.now key_type
         (held file.now pairs.now maps.now psbt m)) }
 {
-    let entry = fit_map(file, pairs, maps, psbt, m)?;
-    Ok(list_in(file, pairs, entry, key_type))
+    let fit = fit_map(file, pairs, maps, psbt, m);
+    list_in(file, pairs, fit, key_type)
 }
 
 // A pair by its number in its map.
-fn nth_in(pairs: &[u32], m: MapEntry, i: usize) -> Result<PairEntry, PsbtError>
+fn nth_entry(pairs: &[u32], m: MapEntry, i: usize) -> Result<PairEntry, PsbtError>
     requires { m.first + m.count ≤ pair_count pairs.now }
     ensures { result ≡ nth i (holds (entries_of pairs.now m)) }
 {
@@ -225,6 +256,19 @@ fn nth_in(pairs: &[u32], m: MapEntry, i: usize) -> Result<PairEntry, PsbtError>
     } else {
         Err(PsbtError::OutOfRange)
     }
+}
+
+// The same, behind the map's refusal.
+pub fn nth_in(
+    pairs: &[u32],
+    fit: Result<MapEntry, PsbtError>,
+    i: usize,
+) -> Result<PairEntry, PsbtError>
+    requires { Within pairs.now fit }
+    ensures { result ≡ nth i (held_of pairs.now fit) }
+{
+    let named = fit?;
+    nth_entry(pairs, named, i)
 }
 
 // Pair number `i` of map number `m`.
@@ -238,8 +282,8 @@ pub fn nth(
 ) -> Result<PairEntry, PsbtError>
     ensures { told_nth result ≡ told_nth (nth i (held file.now pairs.now maps.now psbt m)) }
 {
-    let entry = fit_map(file, pairs, maps, psbt, m)?;
-    nth_in(pairs, entry, i)
+    let fit = fit_map(file, pairs, maps, psbt, m);
+    nth_in(pairs, fit, i)
 }
 
 // Its key, as the part of the file itself: empty for a refusal.

@@ -3,13 +3,12 @@ use mathlib.Core.Path.{◌≡◌, refl, sym, ◌∙◌, ap}
 use mathlib.Core.Bool.{Bool, true, false, ◌||◌}
 use mathlib.Core.List.{List, [], ◌++◌, append_assoc}
 use Prim.Native.Nat.{ℕ, ◌+◌, ◌≤◌}
+use native.Mathlib.Nat.{zero-add}
 use native.Mathlib.Omega.{arith}
 use borrow.Author.Tests.{eqb-true, eq-eqb, ne_eqb}
 use lib.Dec.{eqb}
-use lib.ListN.{length, take, length-append}
-use borrow.Rule.Slice.PartMut.{put_mid, post_of}
-use Rattle.std.proofs.lemmas.Slice.{take-put_mid}
-use lib.Seq.{take_at}
+use lib.ListN.{length, take, drop, length-append}
+use lib.Seq.{sets-eq, take_at, length-take-le}
 use Rattle.format.specs.Keys.{key_of}
 use Rattle.std.specs.Prelude.{Ok, Err}
 use Rattle.format.specs.declared.MapEntry.{MapEntry}
@@ -22,32 +21,46 @@ use Rattle.format.specs.Fields.{leaf_fits, musig_lookup, input_participants, out
 use Rattle.format.specs.Told.{told_looked}
 use Rattle.format.specs.Answers.{Looked}
 use Rattle.format.proofs.Tests.{and_left, and_right}
+use Rattle.writer.specs.Writes.{wrote}
+use Rattle.writer.proofs.Writes.{length_wrote, wrote_append}
 use Rattle.fitness.specs.Fits.{entries_of, held_of, Fit}
 use Rattle.fitness.proofs.Maps.{held_ok, held_err}
 use Rattle.lookup.specs.Finds.{length_of}
 use Rattle.lookup.specs.declared.Wanted.TheVariants as W
 use Rattle.musig2.specs.Joined.{key_fits_def, musig_fits}
 
--- three parts copied one after the other are the key
-joined : (a b c z : List ℕ) (j k : ℕ) → take (length a + length b + length c) (put_mid (length a + length b) k (put_mid (length a) j (a ++ z) b) c)
-    ≡ a ++ (b ++ c)
-joined a b c z j k =
-    let front : take (length a) (a ++ z) ≡ a = take_at a z (length a) refl in
-    let rest = post_of (length a) j (a ++ z) in
-    let one : length a ≤ length (a ++ z) = omega (arith, length-append a z) in
-    let two : length a + length b ≤ length (put_mid (length a) j (a ++ z) b) =
-    omega (arith, length-append (take (length a) (a ++ z)) (b ++ rest), length-append b rest, ap length front) in
-    take-put_mid (length a + length b) k (put_mid (length a) j (a ++ z) b) c (length a + length b + length c) refl two
-    ∙ ap (λ (l : List ℕ). l ++ c) (take-put_mid (length a) j (a ++ z) b (length a + length b) refl one ∙ ap (λ (l : List ℕ). l ++ b) front)
-    ∙ append_assoc a b c
+-- copies into an array keep its length, wherever they go
+pub key_length : (K K₁ K₂ K₃ a b c : List ℕ) (x y z e : ℕ) → K₁ ≡ wrote K x a → K₂ ≡ wrote K₁ y b → K₃ ≡ wrote K₂ z c → length K ≡ 98 → e ≤ 98
+    → e ≡ length (take e K₃)
+key_length K K₁ K₂ K₃ a b c x y z e e₁ e₂ e₃ l h =
+    let m = ap length e₁ ∙ length_wrote K x a in
+    let n = ap length e₂ ∙ length_wrote K₁ y b in
+    sym (length-take-le e K₃ (omega (arith, ap length e₃ ∙ length_wrote K₂ z c)))
 
-pub key_asked : (a b c x y u z : List ℕ) (j k : ℕ) → x ≡ a → y ≡ b → u ≡ c → (w : Length) (f : List ℕ) (t : ℕ) (h : Held) (r : Looked)
-    → r ≡ asked true w f (key_of t (take (length a + length b + length c) (put_mid (length a + length b) k (put_mid (length a) j (x ++ z) y) u))) h
-    → r ≡ asked true w f (key_of t (a ++ (b ++ c))) h
-key_asked a b c x y u z j k ex ey eu w f t h r e =
-    let q : put_mid (length a + length b) k (put_mid (length a) j (x ++ z) y) u ≡ put_mid (length a + length b) k
-    (put_mid (length a) j (a ++ z) b) c = rw (ex, ey, eu) in
-    e ∙ ap (λ (l : List ℕ). asked true w f (key_of t l) h) (ap (take (length a + length b + length c)) q ∙ joined a b c z j k)
+-- three parts copied one after the other are the key
+module _ (K K₁ K₂ K₃ a b c : List ℕ) (e₁ : K₁ ≡ wrote K 0 a) (e₂ : K₂ ≡ wrote K₁ (length a) b) (e₃ : K₃ ≡ wrote K₂ (length a + length b) c) where
+  all_three : K₃ ≡ wrote K 0 ((a ++ b) ++ c)
+  all_three =
+      let n : length a + length b ≡ 0 + length (a ++ b) = omega (arith, length-append a b) in
+      let two : K₂ ≡ wrote K 0 (a ++ b) =
+      e₂ ∙ ap (λ (l : List ℕ). wrote l (length a) b) e₁ ∙ ap (λ (k : ℕ). wrote (wrote K 0 a) k b) (sym (zero-add (length a))) ∙ wrote_append K 0 a b in
+      e₃ ∙ ap (λ (l : List ℕ). wrote l (length a + length b) c) two ∙ ap (λ (k : ℕ). wrote (wrote K 0 (a ++ b)) k c) n ∙ wrote_append K 0 (a ++ b) c
+
+  module _ (h : length a + length b + length c ≤ 98) (l : length K ≡ 98) where
+    key_is : take (length a + length b + length c) K₃ ≡ a ++ (b ++ c)
+    unfolding wrote
+    key_is =
+        let n : length ((a ++ b) ++ c) ≡ length a + length b + length c = length-append (a ++ b) c ∙ ap (λ (k : ℕ). k + length c) (length-append a b) in
+        let m : 0 + length ((a ++ b) ++ c) ≤ length K = omega (arith, h) in
+        ap (take (length a + length b + length c)) (all_three ∙ sets-eq ((a ++ b) ++ c) K 0 m)
+        ∙ take_at ((a ++ b) ++ c) (drop (0 + length ((a ++ b) ++ c)) K) (length a + length b + length c) n
+        ∙ append_assoc a b c
+
+    pub key_asked : (w : Length) (f : List ℕ) (t : ℕ) (x : Held) (r : Looked) → r ≡ asked true w f (key_of t (take (length a + length b + length c) K₃)) x
+        → r ≡ asked true w f (key_of t (a ++ (b ++ c))) x
+    key_asked w f t x r e = e ∙ ap (λ (k : List ℕ). asked true w f (key_of t k) x) key_is
+
+pub ruleset joins = (key_length, key_asked, refl)
 
 -- lengths that are right are short
 leaf_short : (l : List ℕ) → leaf_fits l ≡ true → length l ≤ 32

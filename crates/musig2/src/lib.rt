@@ -63,10 +63,10 @@ fn joined_lookup(
     let mut key = [0u8; KEY_LEN];
     let n = a.len() + b.len();
     let e = n + c.len();
-    key[..a.len()].copy_from_slice(a);
-    key[a.len()..n].copy_from_slice(b);
-    key[n..e].copy_from_slice(c);
-    lookup::asked(file, pairs, m, true, wanted, key_type, &key[..e])
+    writer::put_bytes(&mut key, 0, a);
+    writer::put_bytes(&mut key, a.len(), b);
+    writer::put_bytes(&mut key, n, c);
+    lookup::asked_in(file, pairs, m, true, wanted, key_type, &key[..e])
 }
 
 // A MuSig2 lookup asks participant, aggregate and perhaps leaf hash.

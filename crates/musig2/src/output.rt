@@ -22,7 +22,7 @@ pub fn get_musig2_participant_pubkeys(
 {
     let m = fitness::fit_output(file, pairs, maps, psbt, i)?;
     let ok = aggregate.len() == PUBKEY_LEN;
-    lookup::asked(
+    lookup::asked_in(
         file,
         pairs,
         m,

@@ -15,7 +15,7 @@ use Rattle.format.specs.Reading as R
 use Rattle.format.specs.Entries.{pair_words, map_words, has_room_def, put_pair, put_map, entry_of, width}
 use Rattle.format.specs.Parse.{ParseOut, out, cut}
 use Rattle.format.specs.declared.MapKind.{MapKind}
-use Rattle.format.specs.declared.MapKind.TheVariants.{Global, Input, Output}
+use Rattle.format.specs.declared.MapKind.TheVariants.{Global, Input, Output, Other}
 use Rattle.format.specs.declared.PsbtError.TheVariants.{UnexpectedEof, PairsFull, MapsFull}
 use Rattle.format.specs.Answers.{passed, Ruled}
 use Rattle.std.specs.Prelude.{Ok, Err}
@@ -94,6 +94,7 @@ kind_note key v w = by w.kind
     by Global = refl
     by Input = refl
     by Output = refl
+    by Other = refl
 
 abbrev Behind : (Map → List ℕ → Reading) → Known → List ℕ → List ℕ → Type 0
 Behind j w last s = (ps : List Pair) (a r : List ℕ) → Rises last ps

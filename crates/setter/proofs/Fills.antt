@@ -49,7 +49,7 @@ unfolding entry_for every
 entry_by_lem buffer [] h = refl
 entry_by_lem buffer (a ∷ xs) h = ap suc (sound_long buffer a (and_left (sound buffer a) (every (sound buffer) xs) h))
 
-named_sound : (buffer : List ℕ) (xs : List Assignment) (i : ℕ) → Sound buffer xs → every (sound buffer) (named i xs) ≡ true
+pub named_sound : (buffer : List ℕ) (xs : List Assignment) (i : ℕ) → Sound buffer xs → every (sound buffer) (named i xs) ≡ true
 unfolding named
 named_sound buffer xs i k = every_only (sound buffer) (λ a. eqb a.output i) xs k.all
 

@@ -1,5 +1,5 @@
 -- Laws of lists of assignments: records among numbers, and what a walk over a list finds, in the definitions' words.
-use Rattle.std.proofs.Common.{◌≡◌, ℕ, ◌-◌, ◌<◌, ◌≤◌, List, [], ◌∷◌, Bool, true, false, ◌&&◌}
+use Rattle.std.proofs.Common.{◌≡◌, ℕ, ◌-◌, ◌^◌, ◌<◌, ◌≤◌, List, [], ◌∷◌, Bool, true, false, ◌&&◌}
 use Rattle.std.proofs.Common.{cond, Option, Some, length, take, drop, take_all, get_or, refl, sym, ap, ◌∙◌, arith}
 use Rattle.std.specs.Iterator.{YieldsFirst}
 use Rattle.std.proofs.lemmas.Iterator.{YieldsList}
@@ -55,10 +55,21 @@ unfolding only
 filter_keeps t [] = refl
 filter_keeps t (x ∷ xs) = cond_keeps (t x) x (filter t xs) ∙ ap (keep_if (t x) x) (filter_keeps t xs)
 
--- those that name an output, as far as two
-pub two_named : (i : ℕ) (xs : List Assignment) (n : ℕ) → n ≡ length (take 2 (filter (λ (a : Assignment). eqb a.output i) xs)) → n ≡ length (take 2 (named i xs))
+-- those that name an output
+pub all_named : (i : ℕ) (xs : List Assignment) (n : ℕ) → n ≡ length (filter (λ (a : Assignment). eqb a.output i) xs) → n ≡ length (named i xs)
 unfolding named
-two_named i xs n e = e ∙ ap (λ (ys : List Assignment). length (take 2 ys)) (filter_keeps (λ (a : Assignment). eqb a.output i) xs)
+all_named i xs n e = e ∙ ap length (filter_keeps (λ (a : Assignment). eqb a.output i) xs)
+
+-- records are no more than the numbers that they are read from
+records_few : (l : List ℕ) → length (records l) ≤ length l
+unfolding records
+records_few [] = omega arith
+records_few (a ∷ []) = omega arith
+records_few (a ∷ b ∷ []) = omega arith
+records_few (a ∷ b ∷ c ∷ l) = let q : length (records l) ≤ length l = records_few l in omega (arith, q)
+
+pub records_fit : (l : List ℕ) → length l < 2 ^ 64 → length (records l) < 2 ^ 64
+records_fit l h = omega (arith, records_few l)
 
 -- the first that passes a test
 cond_first : (b : Bool) (x : Assignment) (xs : List Assignment) → cond b (Some x) (first_of xs) ≡ first_of (keep_if b x xs)

@@ -6,8 +6,8 @@ use Prim.Native.Nat.{ℕ, ◌+◌, ◌%◌, ◌≤◌, ◌<◌}
 use native.Mathlib.Numerals.{add-one}
 use native.Mathlib.Omega.{arith}
 use lib.Dec.{eqb}
-use borrow.Author.Tests.{ne_eqb, eqb-true, eqb-false}
-use lib.ListN.{length, take, drop, drop_of_length-le}
+use borrow.Author.Tests.{eqb-true, eqb-false}
+use lib.ListN.{length, drop, drop_of_length-le}
 use Rattle.format.specs.Tests.{every}
 use Rattle.format.specs.Content.{present}
 use Rattle.format.specs.Scripts.{Out, allowed, named, served, whole, cut_short, and_more, flat, right_for, settable}
@@ -45,25 +45,15 @@ module _ (f P M : List ℕ) (s : Psbt) (i : ℕ) (k : OutputOf f P M s i) where
 
 pub ruleset scripts_there = (output_in, output_within, script_there)
 
--- never and once are known from the first two
-two_never : (xs : List Assignment) → eqb (length (take 2 xs)) 0 ≡ eqb (length xs) 0
-two_never [] = refl
-two_never (a ∷ xs) = ne_eqb _ 0 (λ q. omega (arith, q)) ∙ sym (ne_eqb _ 0 (λ q. omega (arith, q)))
-
-two_once : (xs : List Assignment) → eqb (length (take 2 xs)) 1 ≡ eqb (length xs) 1
-two_once [] = refl
-two_once (a ∷ []) = refl
-two_once (a ∷ b ∷ xs) = sym (ne_eqb _ 1 (λ q. omega (arith, q)))
-
 -- one output
-module _ (xs : List Assignment) (i : ℕ) (o : Out) (n : ℕ) (c : n ≡ length (take 2 (named i xs))) (b : Bool) (is : b ≡ present o.script) where
+module _ (xs : List Assignment) (i : ℕ) (o : Out) (n : ℕ) (c : n ≡ length (named i xs)) (b : Bool) (is : b ≡ present o.script) where
   pub served_never : b ≡ true → eqb n 0 ≡ served_at xs i o
   unfolding served_at
-  served_never q = rw (c, two_never, ← is, q)
+  served_never q = rw (c, ← is, q)
 
   pub served_once : b ≡ false → eqb n 1 ≡ served_at xs i o
   unfolding served_at
-  served_once q = rw (c, two_once, ← is, q)
+  served_once q = rw (c, ← is, q)
 
 pub ruleset serves = (served_never, served_once)
 
@@ -97,14 +87,14 @@ module _ (f P M : List ℕ) (s : Psbt) (xs : List Assignment) (i : ℕ) (p : Ser
 pub ruleset servings = (serve_done, serve_stop, serve_more)
 
 -- a list of whole records, and one that ends inside a record
-flat_whole : (l : List ℕ) → length l % 3 ≡ 0 → flat l ≡ whole (records l)
+pub flat_whole : (l : List ℕ) → length l % 3 ≡ 0 → flat l ≡ whole (records l)
 unfolding flat records and_more
 flat_whole [] h = refl
 flat_whole (a ∷ []) h = absurd (omega arith)
 flat_whole (a ∷ b ∷ []) h = absurd (omega arith)
 flat_whole (a ∷ b ∷ c ∷ l) h = rw (flat_whole l (omega arith))
 
-flat_cut : (l : List ℕ) → (length l % 3 ≡ 0 → ⊥) → flat l ≡ cut_short
+pub flat_cut : (l : List ℕ) → (length l % 3 ≡ 0 → ⊥) → flat l ≡ cut_short
 unfolding flat and_more
 flat_cut [] h = absurd (h refl)
 flat_cut (a ∷ []) h = refl

@@ -1,5 +1,5 @@
 // Lists of assignments, however they lie in lent memory, read from the front.
-ghost use Rattle.std.specs.Prelude.{◌≡◌, ◌%◌, ◌==◌, Bool, true, ◌∷◌, List, [], length, MatchOption};
+ghost use Rattle.std.specs.Prelude.{◌≡◌, ◌%◌, ◌^◌, ◌<◌, ◌==◌, Bool, true, ◌∷◌, List, [], length, MatchOption};
 ghost use Rattle.std.specs.Iterator.{YieldsFirst, item_count};
 ghost use Rattle.format.specs.declared.Assignment.{Assignment};
 ghost use Rattle.setter.specs.Records.{records};
@@ -15,9 +15,10 @@ pub trait Assignments: Copy {
 
     ghost complete: { Self → Bool };
 
-    // The list doesn't end inside an assignment.
+    // The list doesn't end inside an assignment. Nor has it more of them than a number of 64 bits can count.
     fn is_whole(self) -> bool
-        ensures { result ≡ complete self };
+        ensures whole { result ≡ complete self }
+        ensures few { length (held self) < 2 ^ 64 };
 
     // The first assignment and the list behind it.
     fn first_and_rest(self) -> Option<(Assignment, Self)>

@@ -1,7 +1,7 @@
 // The setter: scripts that the signer gives to the outputs without one.
 #![tactic(auto)]
 
-ghost use Rattle.std.specs.Prelude.{◌≡◌, ◌∷◌, ◌+◌, ◌*◌, ◌<◌, ◌≤◌, length, replicate, take};
+ghost use Rattle.std.specs.Prelude.{◌≡◌, ◌∷◌, ◌+◌, ◌*◌, ◌^◌, ◌<◌, ◌≤◌, length, replicate};
 ghost use Rattle.format.specs.Tests.{every};
 ghost use Rattle.format.specs.Content.{present};
 ghost use Rattle.format.specs.Tables.{view};
@@ -37,14 +37,14 @@ fn script_in(buffer: &[u8], a: Assignment) -> &[u8]
 }
 
 // An assignment's script lies in the buffer and is a taproot script.
-fn is_taproot(buffer: &[u8], a: Assignment) -> bool
+pub fn is_taproot(buffer: &[u8], a: Assignment) -> bool
     ensures { result ≡ sound buffer.now a }
 {
     script_lies(buffer, a) && scripts::is_taproot(script_in(buffer, a))
 }
 
 // An assignment is right by itself: its output exists and its script is one.
-fn is_allowed(outputs: u64, buffer: &[u8], a: Assignment) -> bool
+pub fn is_allowed(outputs: u64, buffer: &[u8], a: Assignment) -> bool
     ensures { result ≡ allowed outputs buffer.now a }
 {
     a.output < outputs && is_taproot(buffer, a)
@@ -57,11 +57,17 @@ fn all_allowed<L: Assignments>(outputs: u64, list: L, buffer: &[u8]) -> bool
     Held { list }.all(|a| is_allowed(outputs, buffer, a))
 }
 
-// How many assignments name output `i`, as far as two.
+// How many assignments name output `i`.
 fn named_count<L: Assignments>(list: L, i: u64) -> usize
-    ensures { result ≡ length (take 2 (named i (L.held list))) }
+    requires { length (L.held list) < 2 ^ 64 }
+    ensures { result ≡ length (named i (L.held list)) }
 {
-    Held { list }.filter(|a| a.output == i).take(2).count()
+    let mut n = 0;
+    // Kept: no `filter` and `count`, which leave their loop at each match: adding each test's answer is one loop, over four at a time.
+    for a in (Held { list }) {
+        n += (a.output == i) as usize;
+    }
+    n
 }
 
 // The first assignment that names output `i`.
@@ -81,7 +87,7 @@ fn put_script(table: &mut [u8], at: usize, script: &[u8])
 }
 
 // Writes the entry of an output that gets no script: zero bytes.
-fn put_zeros(table: &mut [u8], at: usize)
+pub fn put_zeros(table: &mut [u8], at: usize)
     requires { at + script_entry ≤ length table.old }
     ensures { table.new ≡ wrote table.old at (replicate script_entry 0) }
 {
@@ -90,7 +96,7 @@ fn put_zeros(table: &mut [u8], at: usize)
 }
 
 // Writes the entry of an output that gets one: 01 and the script.
-fn put_given(table: &mut [u8], at: usize, buffer: &[u8], a: Assignment)
+pub fn put_given(table: &mut [u8], at: usize, buffer: &[u8], a: Assignment)
     requires { Giving table.old at buffer.now a }
     ensures { table.new ≡ wrote table.old at (1 ∷ script_in buffer.now a) }
 {
@@ -121,7 +127,7 @@ fn put_entries<L: Assignments>(table: &mut [u8], outputs: usize, list: L, buffer
 }
 
 // The state, with scripts set; with no outputs nothing counts as set.
-fn state_after(state: State, outputs: u64) -> State
+pub fn state_after(state: State, outputs: u64) -> State
     ensures { result ≡ state_after state outputs }
 {
     if outputs == 0 {
@@ -149,7 +155,7 @@ fn fill<L: Assignments>(
 }
 
 // Output `i` has script 04.
-fn has_script(file: &[u8], pairs: &[u32], maps: &[u32], psbt: Psbt, i: u64) -> bool
+pub fn has_script(file: &[u8], pairs: &[u32], maps: &[u32], psbt: Psbt, i: u64) -> bool
     requires { OutputOf file.now pairs.now maps.now psbt i }
     ensures { result ≡ present (out_at file.now pairs.now maps.now psbt i).script }
 {
@@ -166,7 +172,8 @@ fn is_served<L: Assignments>(
     list: L,
     i: u64,
 ) -> bool
-    requires { OutputOf file.now pairs.now maps.now psbt i }
+    requires exists { OutputOf file.now pairs.now maps.now psbt i }
+    requires few { length (L.held list) < 2 ^ 64 }
     ensures { result ≡ served_at (L.held list) i (out_at file.now pairs.now maps.now psbt i) }
 {
     let n = named_count(list, i);
@@ -179,7 +186,8 @@ fn is_served<L: Assignments>(
 
 // Each output is.
 fn all_served<L: Assignments>(file: &[u8], pairs: &[u32], maps: &[u32], psbt: Psbt, list: L) -> bool
-    requires { AllFit file.now pairs.now maps.now psbt }
+    requires fit { AllFit file.now pairs.now maps.now psbt }
+    requires few { length (L.held list) < 2 ^ 64 }
     ensures { result ≡ served 0 (outs_of file.now pairs.now maps.now psbt) (L.held list) }
 {
     for i in 0..psbt.outputs {
@@ -191,7 +199,7 @@ fn all_served<L: Assignments>(file: &[u8], pairs: &[u32], maps: &[u32], psbt: Ps
 }
 
 // Scripts may still be set.
-fn is_settable(state: State) -> bool
+pub fn is_settable(state: State) -> bool
     ensures { result ≡ settable state }
 {
     !(state.set || state.written)

@@ -29,7 +29,7 @@ fn scan_lookup(
     ensures { result ≡ scan_lookup key_type width file.now scan_key.now (holds (entries_of pairs.now m)) }
 {
     let ok = scan_key.len() == PUBKEY_LEN;
-    lookup::asked(
+    lookup::asked_in(
         file,
         pairs,
         m,

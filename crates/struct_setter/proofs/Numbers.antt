@@ -1,7 +1,9 @@
 -- Records as numbers, three for each: the list of numbers that gives the same assignments. So the setters over records and over numbers agree.
 use mathlib.Core.Path.{◌≡◌, refl, sym, ◌∙◌, ap}
 use mathlib.Core.List.{List, [], ◌∷◌}
-use Prim.Native.Nat.{ℕ}
+use Prim.Native.Nat.{ℕ, ◌%◌}
+use native.Mathlib.Omega.{arith}
+use lib.ListN.{length}
 use Rattle.format.specs.Scripts.{Given, whole, and_more, flat, set_out_def, set_scripts}
 use Rattle.format.specs.Tables.{View}
 use Rattle.format.specs.Told.{told_left, told_set, told_set_out}
@@ -10,11 +12,21 @@ use Rattle.format.specs.declared.State.{State}
 use Rattle.format.specs.declared.Assignment.{Assignment}
 use Rattle.format.specs.Answers.{ScriptsSet}
 use Rattle.format.proofs.Told.{set_out_one}
+use Rattle.setter.specs.Records.{records}
 
 -- output, start and length of each
 abbrev pub numbers : List Assignment → List ℕ
 numbers [] = []
 numbers (a ∷ xs) = a.output ∷ a.start ∷ a.len ∷ numbers xs
+
+pub numbers_whole : (xs : List Assignment) → length (numbers xs) % 3 ≡ 0
+numbers_whole [] = refl
+numbers_whole (a ∷ xs) = let q : length (numbers xs) % 3 ≡ 0 = numbers_whole xs in omega (arith, q)
+
+pub records_back : (xs : List Assignment) → records (numbers xs) ≡ xs
+unfolding records
+records_back [] = refl
+records_back (a ∷ xs) = ap (λ (ys : List Assignment). a ∷ ys) (records_back xs)
 
 pub flat_back : (xs : List Assignment) → flat (numbers xs) ≡ whole xs
 unfolding flat and_more

@@ -229,8 +229,8 @@ pub fn iter_keys(
     ensures { told_listing result ≡ told_listing (list file.now key_type
         (held_input file.now pairs.now maps.now psbt i)) }
 {
-    let m = fitness::fit_input(file, pairs, maps, psbt, i)?;
-    Ok(lookup::list_in(file, pairs, m, key_type))
+    let fit = fitness::fit_input(file, pairs, maps, psbt, i);
+    lookup::list_in(file, pairs, fit, key_type)
 }
 
 // The pairs of derivations.

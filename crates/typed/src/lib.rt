@@ -26,7 +26,7 @@ fn part_field(
     requires { m.first + m.count ≤ pair_count pairs.now }
     ensures { result ≡ part_field_def key_type (length_of wanted) file.now (holds (entries_of pairs.now m)) }
 {
-    lookup::asked(file, pairs, m, true, wanted, key_type, &file[..0])
+    lookup::asked_in(file, pairs, m, true, wanted, key_type, &file[..0])
 }
 
 // Its number of `width` bytes.

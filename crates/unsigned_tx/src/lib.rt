@@ -134,7 +134,7 @@ fn fit_tx(
         return Err(PsbtError::BadIndex);
     }
     let seen = survey_inputs(file, pairs, maps, psbt);
-    let lock = lock::lock_of(lock::decide(psbt.fallback_locktime, seen.asks))?;
+    let lock = lock::lock_of(Ok(lock::decide(psbt.fallback_locktime, seen.asks)))?;
     if !seen.ok {
         return Err(PsbtError::BadValue);
     }

@@ -1,17 +1,15 @@
 -- The writers' loops, and the shortest spelling by the number's size.
-use mathlib.Core.Path.{◌≡◌, refl, sym, ◌∙◌, ap}
-use mathlib.Core.List.{List, [], ◌∷◌, ◌++◌}
+use mathlib.Core.Path.{◌≡◌, sym, ◌∙◌, ap}
+use mathlib.Core.List.{List, [], ◌∷◌}
 use Prim.Native.Nat.{ℕ, suc, ◌+◌, ◌-◌, ◌^◌, ◌/◌, ◌%◌, ◌≤◌, ◌<◌}
 use native.Mathlib.Numerals.{add-one}
 use native.Mathlib.Omega.{arith}
 use borrow.Author.Tests.{lt-ltb, le-ltb}
-use borrow.Rule.Slice.PartMut.{put_mid}
 use lib.Dec.{ltb}
-use lib.ListN.{length, take, drop, set, length-set}
-use lib.Seq.{sets, sets-eq, take_all}
+use lib.ListN.{length, get_or, drop, set, length-set, drop_of_length-le}
+use lib.Seq.{sets, drop-cons}
 use mir.Syntax.{w64}
 use mir.Val.{Fits}
-use Rattle.std.proofs.lemmas.Slice.{put_mid-paste}
 use Rattle.format.specs.Numbers.{bytes_of}
 use Rattle.format.specs.Compact.{shortest}
 use Rattle.format.proofs.Numbers.{length_bytes_of}
@@ -38,13 +36,25 @@ module _ (B₀ : List ℕ) (at x w : ℕ) (B : List ℕ) (y j : ℕ) (k : Puttin
 
 pub ruleset puts = (put_more, put_done)
 
--- a part that was copied over is written there
-pub copied : (B S C : List ℕ) (at : ℕ) → at + length S ≤ length B → C ≡ S → put_mid at (at + length S - at) B C ≡ wrote B at S
-unfolding wrote
-copied B S C at h e =
-    put_mid-paste at (at + length S - at) B C S (length S) e (omega arith) refl
-    ∙ ap (λ (l : List ℕ). take at B ++ l ++ drop (at + length S) B) (take_all (length S) S (omega arith))
-    ∙ sym (sets-eq S B at h)
+-- what is still to be copied, copied from here, gives the whole
+pub record Copying (D₀ : List ℕ) (at : ℕ) (S D : List ℕ) (j : ℕ) : Type 0 where
+  pub long : length D ≡ length D₀
+  pub is : sets D (at + j) (drop j S) ≡ sets D₀ at S
+
+module _ (D₀ : List ℕ) (at : ℕ) (S D : List ℕ) (j : ℕ) (k : Copying D₀ at S D j) where
+  pub copy_more : j < length S → Copying D₀ at S (set D (at + j) (get_or S j 0)) (j + 1)
+  copy_more h =
+      let p : at + (j + 1) ≡ suc (at + j) = omega arith in
+      record {
+        long = length-set D (at + j) (get_or S j 0) ∙ k.long;
+        is = rw (p, add-one j) (sym (ap (λ (l : List ℕ). sets D (at + j) l) (drop-cons S j 0 h)) ∙ k.is);
+      }
+
+  pub copy_done : length S ≤ j → D ≡ wrote D₀ at S
+  unfolding wrote
+  copy_done h = sym (ap (λ (l : List ℕ). sets D (at + j) l) (drop_of_length-le S h)) ∙ k.is
+
+pub ruleset copies = (copy_more, copy_done)
 
 -- a byte and then more
 module _ (B : List ℕ) (at w : ℕ) (h : at + (1 + w) ≤ length B) where

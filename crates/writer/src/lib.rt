@@ -68,7 +68,11 @@ pub fn put_bytes(buf: &mut [u8], at: usize, src: &[u8])
     requires { at + length src.now ≤ length buf.old }
     ensures { buf.new ≡ wrote buf.old at src.now }
 {
-    buf[at..at + src.len()].copy_from_slice(src);
+    // Kept: no `copy_from_slice`, which the compiler doesn't see through: with it a buffer that is written and never read stays,
+    // 64 KiB of stack and of zeros at each run of `why`.
+    for j in 0..src.len() {
+        buf[at + j] = src[j];
+    }
 }
 
 // The 32 bits of a signed number.

@@ -1,10 +1,15 @@
--- `lookup::asked` meets its contract: the asked key's length, and then the value's.
+-- `lookup::asked` meets its contract: the map's refusal, and then what is asked in the map.
 use Rattle.std.proofs.Common.{rules}
-use Rattle.lookup.proofs.Finds.{askings}
+use Rattle.format.proofs.Answers.{hands_on}
+use Rattle.fitness.proofs.Maps.{fits}
+use Rattle.lookup.proofs.Finds.{asked_of}
 use Rattle.lookup.proofs.asked.Goals as goal
 
-pub returns-then-not-ok : goal.returns-then-not-ok
-returns-then-not-ok c = search (rules, askings)
+pub returns-in_err-m : goal.returns-in_err-m
+returns-in_err-m c = rw (hands_on _ c.in_err-m.field-0.0 c.from_residual.ensures.1) (search (rules, asked_of, c.in_err-m.was))
+
+pub asked_in-requires : goal.asked_in-requires
+asked_in-requires c = search (rules, fits, c.in_ok-m.was)
 
 pub returns : goal.returns
-returns c = search (rules, askings)
+returns c = search (rules, asked_of, c.in_ok-m.was)

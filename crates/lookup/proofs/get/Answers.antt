@@ -1,15 +1,11 @@
--- `lookup::get` meets its contract: the map first, and then what is asked of it.
+-- `lookup::get` meets its contract: the map, and then what is asked of it.
 use Rattle.std.proofs.Common.{rules}
-use Rattle.format.proofs.Answers.{hands_on}
 use Rattle.fitness.proofs.Maps.{fits, map_held}
-use Rattle.lookup.proofs.Finds.{gets}
+use Rattle.lookup.proofs.Finds.{get_is}
 use Rattle.lookup.proofs.get.Goals as goal
 
-pub returns-in_err-entry : goal.returns-in_err-entry
-returns-in_err-entry c = rw (hands_on _ c.in_err-entry.field-0.0 c.from_residual.ensures.1) (search (rules, map_held, gets, c.in_err-entry.was))
-
 pub asked-requires : goal.asked-requires
-asked-requires c = search (rules, fits, c.in_ok-entry.was)
+asked-requires c = search (rules, fits)
 
 pub returns : goal.returns
-returns c = search (rules, map_held, gets, c.in_ok-entry.was)
+returns c = search (rules, map_held, get_is)

@@ -1,13 +1,15 @@
--- `lookup::nth_in` meets its contract.
+-- `lookup::nth_in` meets its contract: the map's refusal, and then the pair in the map.
 use Rattle.std.proofs.Common.{rules}
-use Rattle.lookup.proofs.Lists.{nths}
+use Rattle.format.proofs.Answers.{hands_on}
+use Rattle.fitness.proofs.Maps.{fits}
+use Rattle.lookup.proofs.Lists.{nths_of}
 use Rattle.lookup.proofs.nth_in.Goals as goal
 
-pub overflow_add-m : goal.overflow_add-m
-overflow_add-m c = search (rules, nths)
+pub returns-in_err-named : goal.returns-in_err-named
+returns-in_err-named c = rw (hands_on _ c.in_err-named.field-0.0 c.from_residual.ensures.1) (search (rules, nths_of, c.in_err-named.was))
 
-pub returns-then-i-m : goal.returns-then-i-m
-returns-then-i-m c = search (rules, nths)
+pub nth_entry-requires : goal.nth_entry-requires
+nth_entry-requires c = search (rules, fits, c.in_ok-named.was)
 
-pub returns-else-i-m : goal.returns-else-i-m
-returns-else-i-m c = search (rules, nths)
+pub returns : goal.returns
+returns c = search (rules, nths_of, c.in_ok-named.was)

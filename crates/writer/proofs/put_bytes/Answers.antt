@@ -1,6 +1,10 @@
--- `writer::put_bytes` meets its contract: the part that is copied over is the one that is written.
-use Rattle.writer.proofs.Puts.{copied}
+-- `writer::put_bytes` meets its contract.
+use Rattle.std.proofs.Common.{rules}
+use Rattle.writer.proofs.Puts.{copies}
 use Rattle.writer.proofs.put_bytes.Goals as goal
 
+pub loop-j-preserved : goal.loop-j-preserved
+loop-j-preserved c = search (rules, copies)
+
 pub returns : goal.returns
-returns c = copied c.args.buf.now c.args.src.now _ c.args.at c.requires c.copy_from_slice.ensures.after
+returns c = search (rules, copies)

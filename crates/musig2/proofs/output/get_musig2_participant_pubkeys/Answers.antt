@@ -8,8 +8,8 @@ use Rattle.musig2.proofs.output.get_musig2_participant_pubkeys.Goals as goal
 pub returns-in_err-m : goal.returns-in_err-m
 returns-in_err-m c = rw (hands_on _ c.in_err-m.field-0.0 c.from_residual.ensures.1) (search (rules, output_held, of_maps, c.in_err-m.was))
 
-pub asked-requires : goal.asked-requires
-asked-requires c = search (rules, fits, c.in_ok-m.was)
+pub asked_in-requires : goal.asked_in-requires
+asked_in-requires c = search (rules, fits, c.in_ok-m.was)
 
 pub returns : goal.returns
 returns c = search (rules, output_held, of_maps, c.in_ok-m.was)

@@ -1,15 +1,11 @@
--- `typed::input::iter_keys` meets its contract: the map first, and then what is asked of it.
+-- `typed::input::iter_keys` meets its contract: the map, and then what is asked of it.
 use Rattle.std.proofs.Common.{rules}
-use Rattle.format.proofs.Answers.{hands_on}
 use Rattle.fitness.proofs.Maps.{fits, input_held}
-use Rattle.lookup.proofs.Lists.{listings}
+use Rattle.lookup.proofs.Lists.{list_is}
 use Rattle.typed.proofs.input.iter_keys.Goals as goal
 
-pub returns-in_err-m : goal.returns-in_err-m
-returns-in_err-m c = rw (hands_on _ c.in_err-m.field-0.0 c.from_residual.ensures.1) (search (rules, input_held, listings, c.in_err-m.was))
-
 pub list_in-requires : goal.list_in-requires
-list_in-requires c = search (rules, fits, c.in_ok-m.was)
+list_in-requires c = search (rules, fits)
 
 pub returns : goal.returns
-returns c = search (rules, input_held, listings, c.in_ok-m.was)
+returns c = search (rules, input_held, list_is)
