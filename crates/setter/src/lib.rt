@@ -63,7 +63,7 @@ fn named_count<L: Assignments>(list: L, i: u64) -> usize
     ensures { result ≡ length (named i (L.held list)) }
 {
     let mut n = 0;
-    // Kept: no `filter` and `count`, which leave their loop at each match: adding each test's answer is one loop, over four at a time.
+    // Kept: no `filter` and `count`, which leave their loop at each match: adding each test's answer is one loop.
     for a in (Held { list }) {
         n += (a.output == i) as usize;
     }
