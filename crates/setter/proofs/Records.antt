@@ -60,6 +60,11 @@ pub all_named : (i : ℕ) (xs : List Assignment) (n : ℕ) → n ≡ length (fil
 unfolding named
 all_named i xs n e = e ∙ ap length (filter_keeps (λ (a : Assignment). eqb a.output i) xs)
 
+-- those that name an output, as far as two
+pub two_named : (i : ℕ) (xs : List Assignment) (n : ℕ) → n ≡ length (take 2 (filter (λ (a : Assignment). eqb a.output i) xs)) → n ≡ length (take 2 (named i xs))
+unfolding named
+two_named i xs n e = e ∙ ap (λ (ys : List Assignment). length (take 2 ys)) (filter_keeps (λ (a : Assignment). eqb a.output i) xs)
+
 -- records are no more than the numbers that they are read from
 records_few : (l : List ℕ) → length (records l) ≤ length l
 unfolding records

@@ -6,8 +6,8 @@ use Prim.Native.Nat.{ℕ, ◌+◌, ◌%◌, ◌≤◌, ◌<◌}
 use native.Mathlib.Numerals.{add-one}
 use native.Mathlib.Omega.{arith}
 use lib.Dec.{eqb}
-use borrow.Author.Tests.{eqb-true, eqb-false}
-use lib.ListN.{length, drop, drop_of_length-le}
+use borrow.Author.Tests.{ne_eqb, eqb-true, eqb-false}
+use lib.ListN.{length, take, drop, drop_of_length-le}
 use Rattle.format.specs.Tests.{every}
 use Rattle.format.specs.Content.{present}
 use Rattle.format.specs.Scripts.{Out, allowed, named, served, whole, cut_short, and_more, flat, right_for, settable}
@@ -55,7 +55,24 @@ module _ (xs : List Assignment) (i : ℕ) (o : Out) (n : ℕ) (c : n ≡ length 
   unfolding served_at
   served_once q = rw (c, ← is, q)
 
-pub ruleset serves = (served_never, served_once)
+-- never and once are known from the first two
+two_never : (xs : List Assignment) → eqb (length (take 2 xs)) 0 ≡ eqb (length xs) 0
+two_never [] = refl
+two_never (a ∷ xs) = ne_eqb _ 0 (λ q. omega (arith, q)) ∙ sym (ne_eqb _ 0 (λ q. omega (arith, q)))
+
+two_once : (xs : List Assignment) → eqb (length (take 2 xs)) 1 ≡ eqb (length xs) 1
+two_once [] = refl
+two_once (a ∷ []) = refl
+two_once (a ∷ b ∷ xs) = sym (ne_eqb _ 1 (λ q. omega (arith, q)))
+
+module _ (xs : List Assignment) (i : ℕ) (o : Out) (n : ℕ) (c : n ≡ length (take 2 (named i xs))) (b : Bool) (is : b ≡ present o.script) where
+  pub never_in_two : b ≡ true → eqb n 0 ≡ served_at xs i o
+  never_in_two q = rw (c, two_never (named i xs)) (served_never xs i o (length (named i xs)) refl b is q)
+
+  pub once_in_two : b ≡ false → eqb n 1 ≡ served_at xs i o
+  once_in_two q = rw (c, two_once (named i xs)) (served_once xs i o (length (named i xs)) refl b is q)
+
+pub ruleset serves = (never_in_two, once_in_two)
 
 -- whether the outputs from number i on are served is whether all are
 abbrev pub Serving : List ℕ → List ℕ → List ℕ → Psbt → List Assignment → ℕ → Type 0

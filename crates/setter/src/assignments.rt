@@ -15,15 +15,29 @@ pub trait Assignments: Copy {
 
     ghost complete: { Self → Bool };
 
-    // The list doesn't end inside an assignment. Nor has it more of them than a number of 64 bits can count.
+    // The list doesn't end inside an assignment.
     fn is_whole(self) -> bool
-        ensures whole { result ≡ complete self }
-        ensures few { length (held self) < 2 ^ 64 };
+        ensures { result ≡ complete self };
 
     // The first assignment and the list behind it.
     fn first_and_rest(self) -> Option<(Assignment, Self)>
         ensures { MatchOption result (held self ≡ [])
             (λ (parts : Assignment × Self). held self ≡ parts.0 ∷ held parts.1) };
+
+    // The list knows that a number of 64 bits can count its assignments.
+    fn is_few(self) -> bool
+        ensures { result ≡ true → length (held self) < 2 ^ 64 }
+    {
+        false
+    }
+}
+
+// Lists of a kind that never has more assignments than a number of 64 bits can count.
+pub trait Few: Assignments {
+    // The list doesn't end inside an assignment. Nor has it more of them than a number of 64 bits can count.
+    fn is_whole_and_few(self) -> bool
+        ensures whole { result ≡ Self.complete self }
+        ensures few { length (Self.held self) < 2 ^ 64 };
 }
 
 impl Assignments for &[Assignment] {
@@ -40,6 +54,18 @@ impl Assignments for &[Assignment] {
     fn first_and_rest(self) -> Option<(Assignment, Self)> {
         let (first, rest) = self.split_first()?;
         Some((*first, rest))
+    }
+
+    // A slice has no more records.
+    fn is_few(self) -> bool {
+        true
+    }
+}
+
+impl Few for &[Assignment] {
+    // It is whole, and a slice has no more records.
+    fn is_whole_and_few(self) -> bool {
+        self.is_whole()
     }
 }
 
@@ -70,6 +96,11 @@ impl Assignments for Numbers<'_> {
             len: *len,
         };
         Some((first, Numbers { list: rest }))
+    }
+
+    // A slice has no more numbers.
+    fn is_few(self) -> bool {
+        true
     }
 }
 

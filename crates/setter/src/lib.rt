@@ -1,7 +1,7 @@
 // The setter: scripts that the signer gives to the outputs without one.
 #![tactic(auto)]
 
-ghost use Rattle.std.specs.Prelude.{◌≡◌, ◌∷◌, ◌+◌, ◌*◌, ◌^◌, ◌<◌, ◌≤◌, length, replicate};
+ghost use Rattle.std.specs.Prelude.{◌≡◌, ◌∷◌, ◌+◌, ◌*◌, ◌^◌, ◌<◌, ◌≤◌, length, replicate, take};
 ghost use Rattle.format.specs.Tests.{every};
 ghost use Rattle.format.specs.Content.{present};
 ghost use Rattle.format.specs.Tables.{view};
@@ -14,8 +14,10 @@ ghost use Rattle.setter.specs.Fills.{entries_from, state_after, filled_for, Givi
 ghost use Rattle.setter.specs.Rights.{served_at, given_by, right_given, OutputOf};
 
 mod assignments;
+#[cfg(test)]
+mod tests;
 
-pub use assignments::Assignments;
+pub use assignments::{Assignments, Few};
 use assignments::{Held, Numbers};
 use format::{Assignment, Psbt, PsbtError, State};
 
@@ -57,7 +59,7 @@ fn all_allowed<L: Assignments>(outputs: u64, list: L, buffer: &[u8]) -> bool
     Held { list }.all(|a| is_allowed(outputs, buffer, a))
 }
 
-// How many assignments name output `i`.
+// How many assignments name output `i`, in a list that a number of 64 bits can count.
 fn named_count<L: Assignments>(list: L, i: u64) -> usize
     requires { length (L.held list) < 2 ^ 64 }
     ensures { result ≡ length (named i (L.held list)) }
@@ -68,6 +70,16 @@ fn named_count<L: Assignments>(list: L, i: u64) -> usize
         n += (a.output == i) as usize;
     }
     n
+}
+
+// How many assignments name output `i`, as far as two, which no list is too long for.
+fn count_to_two<L: Assignments>(list: L, i: u64) -> usize
+    ensures { result ≡ length (take 2 (named i (L.held list))) }
+{
+    if list.is_few() {
+        return named_count(list, i).min(2);
+    }
+    Held { list }.filter(|a| a.output == i).take(2).count()
 }
 
 // The first assignment that names output `i`.
@@ -172,11 +184,10 @@ fn is_served<L: Assignments>(
     list: L,
     i: u64,
 ) -> bool
-    requires exists { OutputOf file.now pairs.now maps.now psbt i }
-    requires few { length (L.held list) < 2 ^ 64 }
+    requires { OutputOf file.now pairs.now maps.now psbt i }
     ensures { result ≡ served_at (L.held list) i (out_at file.now pairs.now maps.now psbt i) }
 {
-    let n = named_count(list, i);
+    let n = count_to_two(list, i);
     if has_script(file, pairs, maps, psbt, i) {
         n == 0
     } else {
@@ -186,8 +197,7 @@ fn is_served<L: Assignments>(
 
 // Each output is.
 fn all_served<L: Assignments>(file: &[u8], pairs: &[u32], maps: &[u32], psbt: Psbt, list: L) -> bool
-    requires fit { AllFit file.now pairs.now maps.now psbt }
-    requires few { length (L.held list) < 2 ^ 64 }
+    requires { AllFit file.now pairs.now maps.now psbt }
     ensures { result ≡ served 0 (outs_of file.now pairs.now maps.now psbt) (L.held list) }
 {
     for i in 0..psbt.outputs {
