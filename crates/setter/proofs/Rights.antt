@@ -72,7 +72,7 @@ module _ (xs : List Assignment) (i : ℕ) (o : Out) (n : ℕ) (c : n ≡ length 
   pub once_in_two : b ≡ false → eqb n 1 ≡ served_at xs i o
   once_in_two q = rw (c, two_once (named i xs)) (served_once xs i o (length (named i xs)) refl b is q)
 
-pub ruleset serves = (never_in_two, once_in_two)
+pub ruleset serves = (served_never, served_once, never_in_two, once_in_two)
 
 -- whether the outputs from number i on are served is whether all are
 abbrev pub Serving : List ℕ → List ℕ → List ℕ → Psbt → List Assignment → ℕ → Type 0

@@ -56,14 +56,14 @@ impl Assignments for &[Assignment] {
         Some((*first, rest))
     }
 
-    // A slice has no more records.
+    // A slice never has more records than that.
     fn is_few(self) -> bool {
         true
     }
 }
 
 impl Few for &[Assignment] {
-    // It is whole, and a slice has no more records.
+    // A slice of records ends inside none, and never has more.
     fn is_whole_and_few(self) -> bool {
         self.is_whole()
     }
@@ -98,7 +98,7 @@ impl Assignments for Numbers<'_> {
         Some((first, Numbers { list: rest }))
     }
 
-    // A slice has no more numbers.
+    // A slice never has more numbers than that.
     fn is_few(self) -> bool {
         true
     }
