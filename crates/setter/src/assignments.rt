@@ -24,7 +24,7 @@ pub trait Assignments: Copy {
         ensures { MatchOption result (held self ≡ [])
             (λ (parts : Assignment × Self). held self ≡ parts.0 ∷ held parts.1) };
 
-    // The list knows that a number of 64 bits can count its assignments.
+    // The list knows that a number of 64 bits can count its assignments. One whose type doesn't say so may be of any length.
     fn is_few(self) -> bool
         ensures { result ≡ true → length (held self) < 2 ^ 64 }
     {
@@ -32,7 +32,7 @@ pub trait Assignments: Copy {
     }
 }
 
-// Lists of a kind that never has more assignments than a number of 64 bits can count.
+// Lists of a kind that never has more assignments than a number of 64 bits can count, for callers that rely on it.
 pub trait Few: Assignments {
     // The list doesn't end inside an assignment. Nor has it more of them than a number of 64 bits can count.
     fn is_whole_and_few(self) -> bool

@@ -1,4 +1,4 @@
-// The setter over a list of another kind.
+// What no program here calls: the setter over a list of another kind, and what a slice says of its length.
 ghost use Rattle.std.specs.Prelude.{true, replicate};
 
 use super::*;
@@ -74,7 +74,7 @@ fn lists_of_another_kind() -> Result<(), Fail> {
             Err(e) => e.number(),
         };
         if refused != number {
-            Err("the wrong answer")?;
+            Err("not the answer for so many assignments")?;
         }
     }
     Ok(())
